@@ -2,8 +2,9 @@
 
 import collections
 
-# `read` and `written` are numbers or None; `source` is None, "init" or the name of an operation: its process and its place, from 1.
-Op = collections.namedtuple("Op", "location read written source")
+# `read` and `written` are numbers or None; `source` is None, "init" or the name of an operation: its process and its place, from 1. `span` has when it
+# began and when it had ended, or is None.
+Op = collections.namedtuple("Op", "location read written source span", defaults=(None,))
 Trace = collections.namedtuple("Trace", "processes before initial final")
 
 
@@ -21,15 +22,16 @@ def read_trace(text):
         elif words[0] == "before":
             trace.before.append(((words[1], int(words[2])), (words[3], int(words[4]))))
         else:
+            words, span = (words[:-3], tuple(map(int, words[-2:]))) if words[-3] == "at" else (words, None)
             at = words.index("from") if "from" in words else len(words)
             source = None if at == len(words) else "init" if words[at + 1 :] == ["init"] else (words[at + 1], int(words[at + 2]))
             values = [int(word) for word in words[2:at]]
-            operations.append(Op(words[1], None if words[0] == "W" else values[0], None if words[0] == "R" else values[-1], source))
+            operations.append(Op(words[1], None if words[0] == "W" else values[0], None if words[0] == "R" else values[-1], source, span))
     return trace
 
 
 def write_trace(trace):
-    lines = ["vsc 2"]
+    lines = ["vsc 3" if any(op.span for operations in trace.processes.values() for op in operations) else "vsc 2"]
     lines += [f"init {location} {value}" for location, value in trace.initial.items()]
     lines += [f"final {location} {value}" for location, value in trace.final.items()]
     for process, operations in trace.processes.items():
@@ -38,9 +40,16 @@ def write_trace(trace):
             words = ["W" if op.read is None else "R" if op.written is None else "U", op.location]
             words += [str(value) for value in (op.read, op.written) if value is not None]
             words += [] if op.source is None else ["from", "init"] if op.source == "init" else ["from", op.source[0], str(op.source[1])]
+            words += [] if op.span is None else ["at", *map(str, op.span)]
             lines.append(" ".join(words))
     lines += [f"before {one[0]} {one[1]} {other[0]} {other[1]}" for one, other in trace.before]
     return "\n".join(lines) + "\n"
+
+
+def known_order(trace):
+    """Each pair that a line or times put in order."""
+    spans = [((process, place), op.span) for process, operations in trace.processes.items() for place, op in enumerate(operations, 1) if op.span]
+    return list(dict.fromkeys([*trace.before, *((one, other) for one, early in spans for other, late in spans if early[1] < late[0])]))
 
 
 def step(trace, name, memory):
@@ -69,13 +78,13 @@ def is_legal(trace, order):
         if memory is None:
             return False
     is_whole = all(place[process] == len(operations) for process, operations in trace.processes.items())
-    return is_whole and ends_right(trace, memory) and all(at[one] < at[other] for one, other in trace.before)
+    return is_whole and ends_right(trace, memory) and all(at[one] < at[other] for one, other in known_order(trace))
 
 
 def has_schedule(trace):
     """Whether there is a legal schedule."""
     waits_for = collections.defaultdict(list)
-    for one, other in trace.before:
+    for one, other in known_order(trace):
         waits_for[other].append(one)
     names, failed = list(trace.processes), set()
 
@@ -101,7 +110,7 @@ def has_schedule(trace):
 def schedules(trace, most):
     """Legal schedules, each as a list of names: all of them, or the first that are found if they are more than `most`."""
     waits_for = collections.defaultdict(list)
-    for one, other in trace.before:
+    for one, other in known_order(trace):
         waits_for[other].append(one)
     count, found = sum(map(len, trace.processes.values())), []
 

@@ -59,7 +59,7 @@ class Refused(Exception):
 
 
 class Trace:
-    """A trace as lists: each operation is (kind, location, read, left, origin)."""
+    """A trace as lists: each operation is (kind, location, read, left, origin, span), with a span of two times, or None."""
 
     def __init__(self, text):
         self.names, self.processes, self.initial, self.final, self.before = [], [], {}, {}, []
@@ -82,17 +82,25 @@ class Trace:
                 count = 3 if kind in "RW" else 4
                 read = None if kind == "W" else int(words[2])
                 left = None if kind == "R" else int(words[count - 1])
-                self.processes[-1].append([kind, words[1], read, left, None])
-                if words[count:] == ["from", "init"]:
+                source, span = words[count:], None
+                if source[-3:-2] == ["at"]:
+                    source, span = source[:-3], (int(words[-2]), int(words[-1]))
+                self.processes[-1].append([kind, words[1], read, left, None, span])
+                if source == ["from", "init"]:
                     self.processes[-1][-1][4] = "init"
-                elif len(words) > count:
-                    origins.append((self.processes[-1][-1], words[count + 1 :]))
+                elif source:
+                    origins.append((self.processes[-1][-1], source[1:]))
         for op, (process, place) in origins:
             op[4] = (self.names.index(process), int(place))
         self.before = [((self.names.index(p), int(i)), (self.names.index(q), int(j))) for p, i, q, j in self.before]
 
     def op(self, n):
         return self.processes[n[0]][n[1] - 1]
+
+    def ended_before(self, m, n):
+        """Whether m had ended before n began: both have times, and the one of m ends below the start of n's."""
+        first, second = self.op(m)[5], self.op(n)[5]
+        return first is not None and second is not None and first[1] < second[0]
 
     def operations(self):
         return [(p, k + 1) for p, ops in enumerate(self.processes) for k in range(len(ops))]
@@ -226,7 +234,7 @@ class Clause:
 
 def sources(trace, reader):
     """The possible sources of a reader, by process, in order; and whether the initial value is one."""
-    _, location, value, _, origin = trace.op(reader)
+    _, location, value, _, origin, _ = trace.op(reader)
     writers = trace.writers(location, value)
     if isinstance(origin, tuple):
         writers = [w for w in writers if w == origin]
@@ -275,10 +283,10 @@ def want_reader(trace, reader, pieces):
     """The operation reads, and the witnesses of its pieces are such against what it reads."""
     if not reads(trace, reader):
         raise Refused("NoReader")
-    _, location, value, _, _ = trace.op(reader)
+    _, location, value, _, _, _ = trace.op(reader)
 
     def is_witness(x):
-        _, at, read, left, _ = trace.op(x)
+        _, at, read, left, _, _ = trace.op(x)
         return x != reader and at == location and (left is not None or read != value)
 
     pieces.want_witnesses(is_witness)
@@ -323,7 +331,7 @@ def last_writers(trace, location, pieces):
     final = trace.final.get(location)
 
     def is_witness(x):
-        _, at, read, left, _ = trace.op(x)
+        _, at, read, left, _, _ = trace.op(x)
         return at == location and (left is not None or (final is not None and read != final))
 
     pieces.want_witnesses(is_witness)
@@ -443,6 +451,14 @@ def pair_clause(trace, clause, words):
     clause.say(*pair)
 
 
+def ended_clause(trace, clause, words):
+    pair = words.pair()
+    words.end()
+    if not trace.ended_before(*pair):
+        raise Refused("NoPair")
+    clause.say(*pair)
+
+
 def clause_of(trace, line):
     """The orders of the clause that a line makes."""
     clause, kind, words = Clause(), line[0], Words(trace, line[1:])
@@ -450,6 +466,8 @@ def clause_of(trace, line):
         cycle_clause(clause, [trace.number(word) for word in words.left])
     elif kind == "b":
         pair_clause(trace, clause, words)
+    elif kind == "t":
+        ended_clause(trace, clause, words)
     elif kind == "s":
         reader = words.operation()
         source_clause(trace, clause, reader, Pieces("hfiHL", words.pieces()))

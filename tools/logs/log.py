@@ -45,6 +45,10 @@ Operation = collections.namedtuple("Operation", "line process place location rea
 Fetch = collections.namedtuple("Fetch", "process at function word")
 
 
+def has_times(op):
+    return op.start is not None or op.end is not None
+
+
 def kinds_of(wanted):
     """What each word of the column `kind` stands for."""
     kinds = {word: kind for kind, words in KINDS.items() for word in words.split()}
@@ -163,9 +167,10 @@ class Log:
         if self.count() > MOST_OPERATIONS:
             raise Mistake(f"{self.count()} operations, and a trace has {MOST_OPERATIONS} at most: {ADVICE}")
 
-    def look_at_what_is_kept(self, orders):
-        """Says if `vsc verify` refuses the trace: it drops reads that repeat the operation before them, but none that an order names."""
-        dropped = {(b.process, b.place) for ops in self.processes.values() for a, b in zip(ops, ops[1:]) if b.written is None and self.is_repeat(a, b)}
+    def look_at_what_is_kept(self, orders, with_times):
+        """Says if `vsc verify` refuses the trace: it drops reads that repeat the operation before them, but none that an order names or that has times."""
+        pairs = ((a, b) for ops in self.processes.values() for a, b in zip(ops, ops[1:]) if not (with_times and has_times(b)))
+        dropped = {(b.process, b.place) for a, b in pairs if b.written is None and self.is_repeat(a, b)}
         if dropped:
             dropped.difference_update(itertools.chain.from_iterable(orders))
         count = self.count()

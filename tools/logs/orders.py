@@ -31,6 +31,17 @@ def later(one, other):
     return other if one is None or other is not None and other > one else one
 
 
+def look_at_program_order(processes):
+    """Refuses times that turn the order of a process round. Those that do not make no ring with it."""
+    for operations in processes:
+        latest = None
+        for op in operations:
+            if latest is not None and op.end is not None and op.end < latest.start:
+                raise at_line(op.line, f"it ended before line {latest.line} of the same process began: rows of a process stand in its order")
+            if op.start is not None and (latest is None or op.start > latest.start):
+                latest = op
+
+
 class Orders:
     """Which operations stand before which, beside program order: from times, barriers and known orders, those left out that follow from others.
     Inside, a process is its number, and all is linear in the operations, but that the ends are sorted and each has a row of the processes."""
@@ -45,7 +56,7 @@ class Orders:
         self.from_barriers(log)
         self.ends = None
         if with_times and log.has_times:
-            self.look_at_program_order()
+            look_at_program_order(self.processes)
             self.ends = Ends(self.processes)
         # By process the rows of its operations, one behind the other: of each process the last place that stands before the operation.
         self.rows = [array.array("I") for _ in self.names]
@@ -68,15 +79,6 @@ class Orders:
                 for second, count in counts.items():
                     if first != second and done and count < len(log.processes[second]):
                         self.add((first, done), (second, count + 1))
-
-    def look_at_program_order(self):
-        for operations in self.processes:
-            latest = None
-            for op in operations:
-                if latest is not None and op.end is not None and op.end < latest.start:
-                    raise at_line(op.line, f"it ended before line {latest.line} of the same process began: rows of a process stand in its order")
-                if op.start is not None and (latest is None or op.start > latest.start):
-                    latest = op
 
     # ---- the walk
 

@@ -100,10 +100,10 @@ class Naming:
 
 
 class Trace:
-    """The text of a trace: operations by process, orders, and what is held at the start and in the end."""
+    """The text of a trace: operations by process, with their times or without, orders, and what is held at the start and in the end."""
 
-    def __init__(self, processes, orders, initial, final, naming):
-        self.processes, self.orders, self.initial, self.final, self.naming = processes, orders, initial, final, naming
+    def __init__(self, processes, orders, initial, final, naming, times=None):
+        self.processes, self.orders, self.initial, self.final, self.naming, self.times = processes, orders, initial, final, naming, times
 
     def operation_line(self, op):
         name, number = self.naming.locations.of[op.location], self.naming.values.number
@@ -111,7 +111,8 @@ class Trace:
             line = f"R {name} {number(op.read)}"
         else:
             line = f"W {name} {number(op.written)}" if op.read is None else f"U {name} {number(op.read)} {number(op.written)}"
-        return line if op.source is None else f"{line} {self.source(op.source)}"
+        line = line if op.source is None else f"{line} {self.source(op.source)}"
+        return line if self.times is None else line + self.times.words(op)
 
     def source(self, source):
         return "from init" if source == "init" else f"from {self.naming.processes.of[source[0]]} {source[1]}"
@@ -124,7 +125,7 @@ class Trace:
         """The earliest version that has room for the trace, and lines for what it says."""
         operations = [op for own in self.processes.values() for op in own]
         locations = {op.location for op in operations}.union(self.initial, self.final)
-        if max(len(operations), len(locations), len(self.orders)) > MOST_SMALL:
+        if self.times or max(len(operations), len(locations), len(self.orders)) > MOST_SMALL:
             return 3
         return 2 if self.orders or any(op.source for op in operations) else 1
 

@@ -48,6 +48,9 @@ class TraceText:
         return False
 
     def take_operation(self, number, key, words):
+        words, span = self.without_times(number, words)
+        if len(words) < WORDS[key]:
+            return False
         read = value_of(number, words[2]) if key != "W" else None
         written = value_of(number, words[-1 if key == "W" else 3]) if key != "R" else None
         rest, source = words[WORDS[key] :], None
@@ -55,8 +58,15 @@ class TraceText:
             source = "init" if rest[1:] == ["init"] else (rest[1], int(rest[2])) if len(rest) == 3 and rest[2].isdecimal() else None
         if rest and source is None:
             return False
-        self.operations.append(Operation(number, self.process, len(self.operations) + 1, words[1], read, written, None, None, source))
+        self.operations.append(Operation(number, self.process, len(self.operations) + 1, words[1], read, written, *span, source))
         return True
+
+    def without_times(self, number, words):
+        """The words of an operation without its times, and these, of which a trace has both or neither."""
+        if len(words) < 6 or words[-3] != "at":
+            return words, (None, None)
+        self.log.has_times = True
+        return words[:-3], (value_of(number, words[-2]), value_of(number, words[-1]))
 
     def look_at_names(self):
         """Refuses orders and sources that name no operation."""

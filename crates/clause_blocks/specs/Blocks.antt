@@ -1,7 +1,6 @@
 -- The clauses of a trace, in blocks.
 use Rattle.std.specs.Prelude.{ℕ, ◌+◌, ℤ, pos, neg_ℤ, List, [], ◌∷◌, length, map, ◌==◌, if◌then◌else◌}
 use Rattle.std.specs.List.{filter, flat_map, enumerate_from, range_with_len}
-use Rattle.trace_semantics.specs.declared.operation.OpName.{OpName}
 use Rattle.trace_semantics.specs.Trace.{TraceValue, operation_count}
 use Rattle.var_layout.specs.declared.candidate.Candidate.{Candidate}
 use Rattle.var_layout.specs.declared.candidate.Candidate.TheVariants.{InitialValue, Writer}
@@ -10,7 +9,8 @@ use Rattle.var_layout.specs.declared.candidate.FinalChoice.{FinalChoice}
 use Rattle.var_layout.specs.Candidates.{candidates}
 use Rattle.var_layout.specs.ChoiceVariables.{first_choice, choices}
 use Rattle.var_layout.specs.FinalVariables.{final_candidates, is_untouched, first_final, final_choices}
-use Rattle.var_layout.specs.Numbers.{numbers, number_of, readers, writers, others, other_writers, in_one_process}
+use Rattle.var_layout.specs.KnownPairs.{known_pairs}
+use Rattle.var_layout.specs.Numbers.{numbers, readers, writers, others, other_writers, in_one_process}
 use Rattle.var_layout.specs.OrderVariables.{numbers_above, order_lit}
 
 -- the literal that says that i stands before j
@@ -67,6 +67,6 @@ clauses_of_final t k entry = if is_untouched t entry then []
 abbrev pub final_clauses : TraceValue → List (List ℤ)
 final_clauses t = flat_map (λ (numbered : ℕ × (List ℕ × ℕ)). clauses_of_final t numbered.0 numbered.1) (enumerate_from 0 t.final_values)
 
--- the first of each before pair stands before the second
+-- the first of each pair of which the trace says so stands before the second
 abbrev pub before_clauses : TraceValue → List (List ℤ)
-before_clauses t = map (λ (pair : OpName × OpName). stands_before t (number_of t pair.0) (number_of t pair.1) ∷ []) t.before
+before_clauses t = map (λ (pair : ℕ × ℕ). stands_before t pair.0 pair.1 ∷ []) (known_pairs t)

@@ -1,5 +1,5 @@
 -- Small traces and their formulas, as examples.
-use Rattle.std.specs.Prelude.{ℕ, ℤ, pos, neg_ℤ, List, [], ◌∷◌, codes}
+use Rattle.std.specs.Prelude.{ℕ, ℤ, pos, neg_ℤ, List, [], ◌∷◌, Some, None, codes}
 use Rattle.dimacs.specs.Formula.{FormulaValue}
 use Rattle.trace_semantics.specs.declared.operation.Op.{Op}
 use Rattle.trace_semantics.specs.declared.operation.Op.TheVariants.{Read, Write, Update}
@@ -31,7 +31,7 @@ store_buffering_formula = record {
 -- one update undoes the other, and the final value is the initial one
 abbrev pub two_updates : TraceValue
 two_updates = record {
-  processes = process_of (codes "P") (Update (codes "x") 0 1 Any) ∷ process_of (codes "Q") (Update (codes "x") 1 0 Any) ∷ [];
+  processes = process_of (codes "P") (Update (codes "x") 0 1 Any None) ∷ process_of (codes "Q") (Update (codes "x") 1 0 Any None) ∷ [];
   initial = (codes "x", 0) ∷ [];
   final_values = (codes "x", 0) ∷ [];
   before = [];
@@ -50,7 +50,7 @@ name_of process = record { process = process; place = 1 }
 -- the read has the initial value, and yet the write stands before it
 abbrev pub late_read : TraceValue
 late_read = record {
-  processes = process_of (codes "P") (Write (codes "x") 0) ∷ process_of (codes "Q") (Read (codes "x") 0 Initial) ∷ [];
+  processes = process_of (codes "P") (Write (codes "x") 0 None) ∷ process_of (codes "Q") (Read (codes "x") 0 Initial None) ∷ [];
   initial = (codes "x", 0) ∷ [];
   final_values = [];
   before = (name_of (codes "P"), name_of (codes "Q")) ∷ [];
@@ -59,10 +59,23 @@ late_read = record {
 abbrev pub late_read_formula : FormulaValue
 late_read_formula = record { variables = 2; clauses = (pos 2 ∷ []) ∷ (negated 2 ∷ negated 1 ∷ []) ∷ (pos 1 ∷ []) ∷ [] }
 
+-- a write from time 1 to this time, and a read of the initial value from time 3 on
+abbrev pub write_and_read : ℕ → TraceValue
+write_and_read end = record {
+  processes = process_of (codes "P") (Write (codes "x") 0 (Some (record { start = 1; end = end }))) ∷ process_of (codes "Q") (Read (codes "x") 0 Initial (Some (record { start = 3; end = 4 }))) ∷ [];
+  initial = (codes "x", 0) ∷ [];
+  final_values = [];
+  before = [];
+}
+
+-- times put nothing before the read
+abbrev pub early_read_formula : FormulaValue
+early_read_formula = record { variables = 2; clauses = (pos 2 ∷ []) ∷ (negated 2 ∷ negated 1 ∷ []) ∷ [] }
+
 -- a value that no operation writes, and a final value that none leaves
 abbrev pub lost_values : TraceValue
 lost_values = record {
-  processes = process_of (codes "P") (Read (codes "x") 1 Any) ∷ [];
+  processes = process_of (codes "P") (Read (codes "x") 1 Any None) ∷ [];
   initial = [];
   final_values = (codes "y", 5) ∷ [];
   before = [];

@@ -1,4 +1,4 @@
-//! Before pairs: the first of each stands before the second.
+//! The order that the trace says, by before pairs and by times: the first of each pair stands before the second.
 
 ghost use Rattle.std.specs.Prelude.{◌≡◌, ◌++◌, OnOk};
 ghost use Rattle.clause_blocks.specs.Blocks.{before_clauses};
@@ -7,7 +7,7 @@ use dimacs::Clause;
 use std::alloc::{AllocError, Global};
 use var_layout::layout::Layout;
 
-/// Appends the clauses of the before pairs.
+/// Appends the clauses of the pairs of which the trace says that the first stands before the second.
 pub(crate) fn push_before_clauses(
     alloc: Global,
     layout: &Layout,

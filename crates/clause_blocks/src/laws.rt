@@ -11,7 +11,7 @@ ghost use Rattle.dimacs.specs.Models.{IsModel};
 ghost use Rattle.trace_semantics.specs.Trace.{TraceValue, IsTrace, operation_count};
 ghost use Rattle.clause_blocks.specs.Blocks.{transitivity};
 ghost use Rattle.clause_blocks.specs.Clauses.{clauses_of, formula_of};
-ghost use Rattle.clause_blocks.specs.Examples.{store_buffering_formula, two_updates, two_updates_formula, late_read, late_read_formula, lost_values, lost_values_formula};
+ghost use Rattle.clause_blocks.specs.Examples.{store_buffering_formula, two_updates, two_updates_formula, late_read, late_read_formula, write_and_read, early_read_formula, lost_values, lost_values_formula};
 ghost use Rattle.clause_blocks.specs.Ranks.{AreRanks, count_before};
 ghost use Rattle.var_layout.specs.StoreBuffering.{store_buffering};
 
@@ -20,6 +20,8 @@ pub fn small_traces_have_these_formulas()
     ensures store_buffering { formula_of store_buffering ≡ store_buffering_formula }
     ensures two_updates { formula_of two_updates ≡ two_updates_formula }
     ensures late_read { formula_of late_read ≡ late_read_formula }
+    ensures ended { formula_of (write_and_read 2) ≡ late_read_formula }
+    ensures not_ended { formula_of (write_and_read 3) ≡ early_read_formula }
     ensures lost_values { formula_of lost_values ≡ lost_values_formula }
 {}
 

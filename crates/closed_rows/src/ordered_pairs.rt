@@ -10,6 +10,8 @@ use std::alloc::{AllocError, Global};
 pub enum PairReason {
     /// The trace has it.
     Given,
+    /// By the trace's times the first operation had ended before the second began.
+    Timed,
     /// The first operation is the only source of this reader, or stands before all its sources, and the reader is the second.
     BeforeReader(u32),
     /// The second operation comes after all sources of this reader, which is the first, and is no read of what it reads.

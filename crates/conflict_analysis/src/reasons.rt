@@ -27,6 +27,7 @@ impl Analysis {
             PairReason::BeforeLast(reader) => self.ask_sources(order, reader, pair.time),
             PairReason::Learned(clause) => self.ask_clause(order, clauses, clause, pair),
             PairReason::Given => Ok(()),
+            PairReason::Timed => Ok(()),
             PairReason::Decided => Ok(()),
             PairReason::Guessed => Ok(()),
         }

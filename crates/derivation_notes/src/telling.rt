@@ -10,6 +10,8 @@ use clause_blocks::trace_clauses::TraceClauses;
 use dimacs::{ClauseList, Lit};
 use note_text::decimal;
 use std::alloc::{AllocError, Global};
+use trace_semantics::known_order::ends_before;
+use verdict_notes::KeptOp;
 
 /// What follows from a clause.
 #[derive(Clone, Copy)]
@@ -29,6 +31,28 @@ pub enum StepEnd {
     GoesOn,
     /// The hints do not lead to a contradiction.
     Unclear,
+}
+
+/// The words that the trace puts the first operation before the second by a line or by times, which the clause does not say.
+fn known_words(ops: &[KeptOp<'_>], first: usize, second: usize) -> &'static [u8] {
+    match (ops.get(first), ops.get(second)) {
+        (Some(earlier), Some(later)) => {
+            if ends_before(earlier.op.span(), later.op.span()) {
+                b", by their times"
+            } else {
+                b", by a before line"
+            }
+        }
+        _ => b", by a before line",
+    }
+}
+
+/// The words of the reason of a clause of one order.
+fn words_of(reason: OrderReason, ops: &[KeptOp<'_>], first: usize, second: usize) -> &'static [u8] {
+    match reason {
+        OrderReason::BeforePair => known_words(ops, first, second),
+        _ => b", program order",
+    }
 }
 
 /// What is known and what was said of it, within one step of a derivation.
@@ -121,7 +145,7 @@ impl<'t> Teller<'t> {
                 Phrase::Name(first),
                 Phrase::Words(b" before "),
                 Phrase::Name(second),
-                Phrase::Words(b", by a before line"),
+                Phrase::Words(known_words(self.story.ops(), first, second)),
             ]),
             Some(OrderReason::Through(_)) => {
                 let chain = chain_between(self.alloc, &self.facts, first, second)?;
@@ -207,7 +231,6 @@ impl<'t> Teller<'t> {
         literals: &[Lit],
         conclusion: Conclusion,
         reason: OrderReason,
-        name: &[u8],
     ) -> Result<(), AllocError> {
         match conclusion {
             Conclusion::Order(first, second) => self.facts.add_order(first, second, reason),
@@ -224,7 +247,7 @@ impl<'t> Teller<'t> {
                     Phrase::Name(first),
                     Phrase::Words(b" before "),
                     Phrase::Name(second),
-                    Phrase::Words(name),
+                    Phrase::Words(words_of(reason, self.story.ops(), first, second)),
                     Phrase::Words(b": contradiction"),
                 ]);
                 Ok(())
@@ -240,18 +263,12 @@ impl<'t> Teller<'t> {
         conclusion: Conclusion,
     ) -> Result<(), AllocError> {
         match meaning {
-            ClauseMeaning::ProgramOrder => self.tell_order(
-                literals,
-                conclusion,
-                OrderReason::ProgramOrder,
-                b", program order",
-            ),
-            ClauseMeaning::BeforePair => self.tell_order(
-                literals,
-                conclusion,
-                OrderReason::BeforePair,
-                b", by a before line",
-            ),
+            ClauseMeaning::ProgramOrder => {
+                self.tell_order(literals, conclusion, OrderReason::ProgramOrder)
+            }
+            ClauseMeaning::BeforePair => {
+                self.tell_order(literals, conclusion, OrderReason::BeforePair)
+            }
             ClauseMeaning::Transitivity => self.tell_transitivity(literals, conclusion),
             _ => self.keep_order(conclusion),
         }

@@ -5,6 +5,7 @@ use crate::known_order::PartTrace;
 use crate::paths::{first_of, way_between};
 use crate::relation::Relation;
 use crate::shortage::Shortage;
+use forced_order::times::ended_before;
 use std::alloc::{AllocError, Global};
 use trace_semantics::operation::OpName;
 use trace_semantics::trace::Trace;
@@ -36,7 +37,7 @@ pub enum ArrowKind {
     Program,
     /// The other one has its value from it.
     Source,
-    /// The before lines say so.
+    /// The known order says so: the before lines or times, with program order.
     Before,
     /// It follows of where a box has its value from.
     Derived(DerivedBy),
@@ -318,6 +319,26 @@ impl FoundOrder {
         Ok(())
     }
 
+    /// Adds what times say of boxes that are drawn, unless that is known, until the order is contradicted.
+    fn add_timed(
+        &mut self,
+        alloc: Global,
+        items: &[PictureItem<'_>],
+        trace: &Trace,
+    ) -> Result<(), AllocError> {
+        for to in 0..items.len() {
+            for from in 0..items.len() {
+                if !self.is_contradicted
+                    && !self.relation.holds(from, to)
+                    && is_nearest_timed(items, trace, from, to)
+                {
+                    self.add(alloc, from, to, ArrowKind::Before)?;
+                }
+            }
+        }
+        Ok(())
+    }
+
     /// Notes that an initial value stands before the operations at its location, and these before the final one.
     fn add_ends(&mut self, items: &[PictureItem<'_>]) {
         for first in 0..items.len() {
@@ -334,7 +355,7 @@ impl FoundOrder {
         }
     }
 
-    /// Gives what program order and before lines say of the boxes.
+    /// Gives what program order, before lines and times say of the boxes.
     pub(crate) fn of_lines(
         alloc: Global,
         items: &[PictureItem<'_>],
@@ -344,8 +365,9 @@ impl FoundOrder {
         found.add_ends(items);
         found.add_program(alloc, items)?;
         found.add_known(alloc, items, part)?;
-        // The known order is empty if before lines and program order go round in a circle: then the lines themselves show it.
+        // The known order puts no box of a circle nearest to another: then the lines and the times themselves show it.
         found.add_before(alloc, items, part.trace)?;
+        found.add_timed(alloc, items, part.trace)?;
         Ok(found)
     }
 }
@@ -369,6 +391,37 @@ fn is_nearest(items: &[PictureItem<'_>], part: PartTrace<'_>, from: usize, to: u
     }
     for between in 0..items.len() {
         if is_known(items, part, from, between) && is_known(items, part, between, to) {
+            return false;
+        }
+    }
+    true
+}
+
+/// Returns whether the one had ended before the other began.
+fn is_timed(items: &[PictureItem<'_>], trace: &Trace, from: usize, to: usize) -> bool {
+    match (items.get(from), items.get(to)) {
+        (Some(first), Some(second)) => {
+            first.is_operation()
+                && second.is_operation()
+                && ended_before(trace, first.number, second.number)
+        }
+        _ => false,
+    }
+}
+
+/// Returns whether the one had ended before the other began, and so had no later box of its column, and before no earlier one of the other's.
+fn is_nearest_timed(items: &[PictureItem<'_>], trace: &Trace, from: usize, to: usize) -> bool {
+    if !is_timed(items, trace, from, to) {
+        return false;
+    }
+    for between in 0..items.len() {
+        let says_more_behind = from < between
+            && is_one_column(items, from, between)
+            && is_timed(items, trace, between, to);
+        let says_more_ahead = between < to
+            && is_one_column(items, between, to)
+            && is_timed(items, trace, from, between);
+        if says_more_behind || says_more_ahead {
             return false;
         }
     }

@@ -1,4 +1,4 @@
-//! What program order and before lines say of the operations of the whole trace.
+//! What program order, before lines and times say of the operations of the whole trace.
 
 use crate::choice::{is_same, number_at};
 use forced_order::forced_order::ForcedOrder;

@@ -292,7 +292,7 @@ impl<'t> DrawnPart<'t> {
         Ok(())
     }
 
-    /// The order that follows of program order, before lines, and the values that are read.
+    /// The order that follows of program order, before lines, times, and the values that are read.
     ///
     /// In each round all sources are noted before an order is derived of one of them: two reads that contradict
     /// each other then close a cycle, where else the second one would have no source.

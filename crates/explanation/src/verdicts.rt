@@ -170,7 +170,7 @@ fn explain_consistent(alloc: Global, notes: &mut Notes, trace: &NamedText<'_>) {
         }
     }
     notes.note(&[
-        b"the schedule keeps program order; what came first in time is known only by before lines",
+        b"the schedule keeps program order; what came first in time is known only by times and before lines",
     ]);
 }
 
@@ -367,7 +367,7 @@ fn explain_survey_report(
 /// Notes what makes a trace easier to decide that a survey has left open.
 fn explain_unsurveyed(notes: &mut Notes) {
     notes.note(&[
-        b"more is decided with times as before lines, with a value of its own for each write, or with the log's order as --hint",
+        b"more is decided with times, with a value of its own for each write, or with the log's order as --hint",
     ]);
     notes.note(&[b"vsc part makes a smaller trace of operations that are named, for vsc verify"]);
 }

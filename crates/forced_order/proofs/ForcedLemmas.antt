@@ -20,7 +20,7 @@ module _ (t : TraceValue) (names : List OpName) (given : IsInterleaving t names)
 
   step_stands : (m n : OpName) → IsStep t m n → StandsBefore names m n
   step_stands m n (inl h) = program_stands m n h
-  step_stands m n (inr c) = given.before_pairs m n c
+  step_stands m n (inr h) = given.known_order m n h
 
   path_stands : (m : OpName) (between : List OpName) (n : OpName) → IsPath t m between n → StandsBefore names m n
   path_stands m [] n h = step_stands m n h

@@ -12,6 +12,7 @@ use Rattle.trace_semantics.specs.declared.trace.Process.{Process}
 use Rattle.trace_semantics.specs.PairOrder.{order_of}
 use Rattle.trace_semantics.specs.Trace.{TraceValue, IsTrace, at_place, process_named, operation_at}
 use Rattle.trace_semantics.proofs.ElementLemmas.{found, from_map}
+use Rattle.trace_semantics.proofs.KnownOrderLemmas.{both_timed}
 use Rattle.trace_semantics.proofs.NameLemmas.{same_bytes, some_value, known_named, named_known}
 use Rattle.forced_order.specs.declared.numbered.OperationNumber.{OperationNumber}
 use Rattle.forced_order.specs.Closed.{IsClosedStep}
@@ -21,7 +22,7 @@ use Rattle.forced_order.specs.Raised.{IsRaised}
 use Rattle.forced_order.specs.Rows.{OrderValue, HasRow, HasRows, last_before, numbered, ordered_by}
 use Rattle.forced_order.proofs.ForcedLemmas.{forced_over, forced_lower}
 
-within : {X : Type 0} (xs : List X) (k : ℕ) (x : X) → at_place xs k ≡ Some x → (1 ≤ k) × (k ≤ length xs)
+pub within : {X : Type 0} (xs : List X) (k : ℕ) (x : X) → at_place xs k ≡ Some x → (1 ≤ k) × (k ≤ length xs)
 within xs zero x e = absurd (cc)
 within xs (suc k) x e = let l = slice_get_within xs k x e in (omega arith, omega (arith, l))
 
@@ -96,7 +97,8 @@ raised_over t old new first second process place forced is raised given =
 
 first_known : (t : TraceValue) → IsTrace t → (m n : OpName) → IsStep t m n → IsSome (operation_at t m)
 first_known t ok m n (inl h) = h.first
-first_known t ok m n (inr c) = (All-contains (λ (pair : OpName × OpName). IsSome (operation_at t pair.0) × IsSome (operation_at t pair.1)) t.before (m, n) ok.known c).0
+first_known t ok m n (inr (inl c)) = (All-contains (λ (pair : OpName × OpName). IsSome (operation_at t pair.0) × IsSome (operation_at t pair.1)) t.before (m, n) ok.known c).0
+first_known t ok m n (inr (inr h)) = (both_timed t m n h).0
 
 pub path_known : (t : TraceValue) → IsTrace t → (m : OpName) (between : List OpName) (n : OpName) → IsPath t m between n → IsSome (operation_at t m)
 path_known t ok m [] n h = first_known t ok m n h
@@ -107,7 +109,7 @@ pub pair_forced : (t : TraceValue) → IsTrace t → (pair : OperationNumber × 
 pair_forced t ok pair c =
     let of = from_map (numbered_pair t.processes) t.before pair c in
     let known = All-contains (λ (p : OpName × OpName). IsSome (operation_at t p.0) × IsSome (operation_at t p.1)) t.before of.0 ok.known of.1 in
-    let forced = forced_numbers t of.0.0 of.0.1 known.0 known.1 ([], inr of.1) in
+    let forced = forced_numbers t of.0.0 of.0.1 known.0 known.1 ([], inr (inl of.1)) in
     subst (λ (p : OperationNumber × OperationNumber). IsForcedByNumber t p.0 p.1) of.2 forced
 
 pub pair_forced_at : (t : TraceValue) → IsTrace t → (pairs : List (OperationNumber × OperationNumber)) (k : ℕ) (d : OperationNumber × OperationNumber) → pairs ≡ numbered_pairs t → k < length pairs → IsForcedByNumber t (get_or pairs k d).0 (get_or pairs k d).1

@@ -4,3 +4,4 @@ pub mod Order
 pub mod Raised
 pub mod Room
 pub mod Rows
+pub mod Times

@@ -1,8 +1,8 @@
 -- Orders that every legal schedule of a trace keeps.
 use Rattle.std.specs.Prelude.{◌≡◌, ◌⊎◌, ◌<◌, true, Bool, List, [], ◌∷◌, IsSome}
-use Rattle.std.specs.List.{Contains}
 use Rattle.trace_semantics.specs.declared.operation.OpName.{OpName}
 use Rattle.trace_semantics.specs.Interleaving.{StandsBefore}
+use Rattle.trace_semantics.specs.KnownOrder.{IsKnownBefore}
 use Rattle.trace_semantics.specs.Legal.{IsLegal}
 use Rattle.trace_semantics.specs.Trace.{TraceValue, operation_at}
 
@@ -13,17 +13,17 @@ pub record IsInProgramOrder (t : TraceValue) (m n : OpName) : Type 0 where
   pub process : m.process ≡ n.process
   pub lower : m.place < n.place
 
--- program order, or a before pair of the trace
+-- program order, or an order that the trace says, by a before pair or by times
 abbrev pub IsStep : TraceValue → OpName → OpName → Type 0
-IsStep t m n = IsInProgramOrder t m n ⊎ Contains t.before (m, n)
+IsStep t m n = IsInProgramOrder t m n ⊎ IsKnownBefore t m n
 
 -- steps lead from m to n, over the operations between
 abbrev pub IsPath : TraceValue → OpName → List OpName → OpName → Type 0
 IsPath t m [] n = IsStep t m n
 IsPath t m (x ∷ between) n = IsStep t m x × IsPath t x between n
 
--- the forced order: the least transitive relation that contains program order and the before pairs; if these lead in a circle, it puts each
--- operation of the circle before itself
+-- the forced order: the least transitive relation that contains program order, the before pairs and what times say; if these lead in a
+-- circle, it puts each operation of the circle before itself
 abbrev pub IsForced : TraceValue → OpName → OpName → Type 0
 IsForced t m n = (between : List OpName) × IsPath t m between n
 

@@ -6,7 +6,9 @@ ghost use Rattle.trace_semantics.specs.Trace.{IsTrace};
 ghost use Rattle.forced_order.specs.Forced.{AreForced, numbered_pairs};
 ghost use Rattle.forced_order.specs.Order.{IsForcedOrder};
 ghost use Rattle.forced_order.specs.Rows.{HasRows, ordered_by};
+ghost use Rattle.forced_order.specs.Times.{AreEnds};
 
+use crate::least_ends::{LeastEnds, ends_of};
 use crate::numbered::OperationNumber;
 use crate::pairs::pairs_of;
 use crate::raising::{raise_all, raise_along, raise_back};
@@ -28,25 +30,27 @@ fn row_counts(alloc: Global, trace: &Trace) -> Result<Vec<usize>, AllocError>
     Ok(counts)
 }
 
-/// Raises rows until no step raises any, when they say all that is forced. Once along a walk is enough unless pairs are cyclic.
+/// Raises rows until no step raises any, when they say all that is forced. Once along a walk is enough unless steps are cyclic.
 fn close(
     rows: &mut OrderRows,
     trace: &Trace,
     pairs: &[(OperationNumber, OperationNumber)],
+    ends: &[LeastEnds],
     steps: &[OrderStep],
 )
     requires trace { IsTrace trace.now }
     requires pairs { pairs.now ≡ numbered_pairs trace.now }
+    requires ends { AreEnds trace.now.processes ends.now }
     requires rows { HasRows trace.now.processes rows.old }
     requires forced { AreForced trace.now rows.old }
     ensures { IsForcedOrder trace.now (ordered_by trace.now rows.new) }
 {
     loop {
-        raise_along(rows, trace, pairs, steps);
-        if !raise_all(rows, trace, pairs) {
+        raise_along(rows, trace, pairs, ends, steps);
+        if !raise_all(rows, trace, pairs, ends) {
             return;
         }
-        raise_back(rows, trace, pairs, steps);
+        raise_back(rows, trace, pairs, ends, steps);
     }
 }
 
@@ -58,8 +62,10 @@ pub fn rows_of(alloc: Global, trace: &Trace) -> Result<OrderRows, AllocError>
     let counts = row_counts(alloc, trace)?;
     let numbers = pairs_of(alloc, trace)?;
     let pairs = numbers.as_slice();
-    let steps = steps_of(alloc, counts.as_slice(), pairs)?;
+    let least = ends_of(alloc, trace)?;
+    let ends = least.as_slice();
+    let steps = steps_of(alloc, trace, counts.as_slice(), pairs, ends)?;
     let mut rows = OrderRows::zeros(alloc, counts.as_slice())?;
-    close(&mut rows, trace, pairs, steps.as_slice());
+    close(&mut rows, trace, pairs, ends, steps.as_slice());
     Ok(rows)
 }

@@ -1,9 +1,12 @@
-//! A walk over the operations of a trace, each after those that are forced to stand before it, unless pairs are cyclic.
+//! A walk over the operations of a trace, each after those that are forced to stand before it, unless steps are cyclic.
 //!
 //! The order of its steps decides how soon the rows are complete. No property of the rows rests on it.
 
+use crate::least_ends::LeastEnds;
 use crate::numbered::OperationNumber;
+use crate::times::span_by_number;
 use std::alloc::{AllocError, Global};
+use trace_semantics::trace::Trace;
 
 /// A step of the forced order.
 #[derive(Clone, Copy, Drop)]
@@ -12,6 +15,8 @@ pub enum OrderStep {
     Next(OperationNumber),
     /// From the first of the pair under this number to the second.
     Pair(usize),
+    /// To the operation from those that had ended before it began.
+    Times(OperationNumber),
 }
 
 /// The state of the walk in one process.
@@ -32,6 +37,14 @@ impl Front {
         next < self.waits.len() && (forced || self.waits[next] == 0)
     }
 
+    /// Returns how many operations are left.
+    fn left(&self) -> usize {
+        self.waits
+            .len()
+            .saturating_sub(1)
+            .saturating_sub(self.visited as usize)
+    }
+
     fn add_wait(&mut self, place: u32) {
         let k = place as usize;
         if k < self.waits.len() {
@@ -50,7 +63,9 @@ impl Front {
 /// The walk: its fronts, and the steps that were made.
 #[derive(Drop)]
 struct FrontWalk<'a> {
+    trace: &'a Trace,
     pairs: &'a [(OperationNumber, OperationNumber)],
+    ends: &'a [LeastEnds],
     fronts: Vec<Front>,
     steps: Vec<OrderStep>,
 }
@@ -67,8 +82,10 @@ impl<'a> FrontWalk<'a> {
     /// Returns a walk before its first step, over the given number of places of each process.
     fn new(
         alloc: Global,
+        trace: &'a Trace,
         counts: &[usize],
         pairs: &'a [(OperationNumber, OperationNumber)],
+        ends: &'a [LeastEnds],
     ) -> Result<FrontWalk<'a>, AllocError> {
         let mut fronts = Vec::with_capacity(alloc, counts.len())?;
         for k in 0..counts.len() {
@@ -79,7 +96,9 @@ impl<'a> FrontWalk<'a> {
             })?;
         }
         let mut walk = FrontWalk {
+            trace,
             pairs,
+            ends,
             fronts,
             steps: Vec::new(alloc),
         };
@@ -104,20 +123,49 @@ impl<'a> FrontWalk<'a> {
     }
 
     fn may_visit(&self, process: usize, forced: bool) -> bool {
-        process < self.fronts.len() && self.fronts[process].may_visit(forced)
+        process < self.fronts.len()
+            && self.fronts[process].may_visit(forced)
+            && (forced || self.is_due(process))
     }
 
-    /// Goes on to the next operation of the process.
-    fn advance(&mut self, process: usize) -> OperationNumber {
+    /// Returns the next operation of the process.
+    fn next_of(&self, process: usize) -> OperationNumber {
         let mut place = 0;
         if process < self.fronts.len() {
             place = self.fronts[process].visited.saturating_add(1);
-            self.fronts[process].visited = place;
         }
         OperationNumber {
             process: (process & 0xffff) as u16,
             place,
         }
+    }
+
+    /// Returns whether no operation is left that had ended before the next one of the process began.
+    fn is_due(&self, process: usize) -> bool {
+        match span_by_number(self.trace, self.next_of(process)) {
+            Some(span) => span.start <= self.first_end(),
+            None => true,
+        }
+    }
+
+    /// Returns the least end of the operations that are left.
+    fn first_end(&self) -> u64 {
+        let mut least = u64::MAX;
+        for k in 0..self.fronts.len() {
+            if k < self.ends.len() {
+                least = least.min(self.ends[k].of_last(self.fronts[k].left()));
+            }
+        }
+        least
+    }
+
+    /// Goes on to the next operation of the process.
+    fn advance(&mut self, process: usize) -> OperationNumber {
+        let next = self.next_of(process);
+        if process < self.fronts.len() {
+            self.fronts[process].visited = next.place;
+        }
+        next
     }
 
     /// Returns the next pair, if it is one from this operation.
@@ -134,10 +182,13 @@ impl<'a> FrontWalk<'a> {
         None
     }
 
-    /// Visits the next operation of the process, and makes the steps from it.
+    /// Visits the next operation of the process, and makes the steps of times to it and the other steps from it.
     fn visit(&mut self, process: usize) -> Result<(), AllocError> {
         let pairs = self.pairs;
         let n = self.advance(process);
+        if span_by_number(self.trace, n).is_some() {
+            self.steps.push(OrderStep::Times(n))?;
+        }
         self.steps.push(OrderStep::Next(n))?;
         for _ in 0..pairs.len() {
             let Some(k) = self.take_pair(n) else {
@@ -178,12 +229,14 @@ impl<'a> FrontWalk<'a> {
 }
 
 /// Returns the steps of a walk over all operations.
-pub fn steps_of(
+pub fn steps_of<'a>(
     alloc: Global,
+    trace: &'a Trace,
     counts: &[usize],
-    pairs: &[(OperationNumber, OperationNumber)],
+    pairs: &'a [(OperationNumber, OperationNumber)],
+    ends: &'a [LeastEnds],
 ) -> Result<Vec<OrderStep>, AllocError> {
-    let mut walk = FrontWalk::new(alloc, counts, pairs)?;
+    let mut walk = FrontWalk::new(alloc, trace, counts, pairs, ends)?;
     for _ in 0..u32::MAX {
         if !walk.go_on()? && !walk.break_cycle()? {
             break;

@@ -50,6 +50,8 @@ const MISSING: Operation = Operation {
 pub struct NumberedPair {
     pub first: u32,
     pub second: u32,
+    /// Whether times say so, and not a pair of the trace.
+    pub is_timed: bool,
 }
 
 /// A trace whose processes, locations and operations have numbers, counted from 0.

@@ -25,12 +25,8 @@ impl Explanation {
         pair: OrderedPair,
     ) -> Result<Option<DerivationHint>, AllocError> {
         match pair.reason {
-            PairReason::Given => {
-                self.lines.begin(b'b')?;
-                self.lines.operation(pair.first)?;
-                self.lines.operation(pair.second)?;
-                self.finish_line()
-            }
+            PairReason::Given => self.ask_given(b'b', pair),
+            PairReason::Timed => self.ask_given(b't', pair),
             PairReason::BeforeReader(reader) => self.ask_before(order, reader, pair),
             PairReason::AfterReader(reader) => self.ask_after(order, reader, pair),
             PairReason::BeforeSource(reader) => {
@@ -49,6 +45,18 @@ impl Explanation {
                 Ok(None)
             }
         }
+    }
+
+    /// Makes the line of this letter: the trace itself says the pair.
+    fn ask_given(
+        &mut self,
+        letter: u8,
+        pair: OrderedPair,
+    ) -> Result<Option<DerivationHint>, AllocError> {
+        self.lines.begin(letter)?;
+        self.lines.operation(pair.first)?;
+        self.lines.operation(pair.second)?;
+        self.finish_line()
     }
 
     /// Finishes the line with the piece that takes all other sources.

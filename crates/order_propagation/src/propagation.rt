@@ -144,7 +144,12 @@ impl<'a> Propagation<'a> {
     fn store_first_pairs(&mut self) -> Result<(), AllocError> {
         let log = self.log;
         for pair in log.pairs() {
-            self.store(pair.first, pair.second, PairReason::Given)?;
+            let reason = if pair.is_timed {
+                PairReason::Timed
+            } else {
+                PairReason::Given
+            };
+            self.store(pair.first, pair.second, reason)?;
         }
         for reader in 0..log.count() {
             if self.sources.count(reader) == 1 {

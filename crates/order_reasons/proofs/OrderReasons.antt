@@ -1,4 +1,4 @@
--- What a clause says of orders holds in each legal schedule: cycles, before pairs, and that some operation comes first.
+-- What a clause says of orders holds in each legal schedule: cycles, before pairs, times, and that some operation comes first.
 use Rattle.std.proofs.Common.{◌≡◌, ◌⊎◌, List, [], ◌∷◌, refl, sym, ◌∙◌, inl, inr, subst}
 use Rattle.std.specs.Prelude.{◌≢◌, IsSome}
 use Rattle.trace_semantics.specs.declared.operation.OpName.{OpName}
@@ -8,7 +8,7 @@ use Rattle.restriction.proofs.StandLemmas.{stands_over, stands_either, never_bot
 use Rattle.forced_order.specs.Order.{IsInProgramOrder}
 use Rattle.forced_order.proofs.ForcedLemmas.{forced_before}
 use Rattle.order_reasons.specs.Orders.{HoldsIn}
-use Rattle.order_reasons.specs.Reasons.{Says, IsUpTo, TurnsSteps, IsCycleClause, IsPairClause}
+use Rattle.order_reasons.specs.Reasons.{Says, IsUpTo, TurnsSteps, IsCycleClause, IsPairClause, IsTimesClause}
 
 module _ (t : TraceValue) (names : List OpName) (given : IsInterleaving t names) (clause : List (OpName × OpName)) where
   pub in_program_order : (m n : OpName) → IsInProgramOrder t m n → StandsBefore names m n
@@ -74,4 +74,7 @@ module _ (t : TraceValue) (names : List OpName) (given : IsInterleaving t names)
       first_known (w ∷ ws) k = k.1
 
   pub pair_stands : (m n : OpName) → IsPairClause t clause m n → HoldsIn names clause
-  pair_stands m n (c, says) = said m n says (given.before_pairs m n c)
+  pair_stands m n (c, says) = said m n says (given.known_order m n (inl c))
+
+  pub times_stand : (m n : OpName) → IsTimesClause t clause m n → HoldsIn names clause
+  times_stand m n (ended, says) = said m n says (given.known_order m n (inr ended))

@@ -11,7 +11,7 @@ ghost use Rattle.trace_semantics.specs.Legal.{HasNoSchedule};
 ghost use Rattle.trace_semantics.specs.Trace.{TraceValue};
 ghost use Rattle.order_reasons.specs.Counting.{NeedsSource, IsCountingClause};
 ghost use Rattle.order_reasons.specs.Orders.{HoldsOfSchedules, AreReasons};
-ghost use Rattle.order_reasons.specs.Reasons.{IsCycleClause, IsPairClause};
+ghost use Rattle.order_reasons.specs.Reasons.{IsCycleClause, IsPairClause, IsTimesClause};
 ghost use Rattle.order_reasons.specs.Sources.{ValueSource, IsSourceClause, IsLastClause, IsLostFinal};
 ghost use Rattle.order_reasons.specs.Waiting.{IsWaitingClause};
 
@@ -23,6 +23,11 @@ pub fn cycle_is_turned()
 /// A before pair holds in each legal schedule.
 pub fn pair_holds()
     ensures { (t : TraceValue) (clause : List (OpName × OpName)) (m n : OpName) → IsPairClause t clause m n → HoldsOfSchedules t clause }
+{}
+
+/// What had ended stands before what began after it in each legal schedule.
+pub fn ended_is_before()
+    ensures { (t : TraceValue) (clause : List (OpName × OpName)) (m n : OpName) → IsTimesClause t clause m n → HoldsOfSchedules t clause }
 {}
 
 /// A reading operation has a source: a clause that bars each possible one holds in each legal schedule.

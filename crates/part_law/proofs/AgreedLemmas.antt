@@ -11,6 +11,7 @@ use Rattle.trace_semantics.specs.declared.operation.OpName.{OpName}
 use Rattle.trace_semantics.specs.declared.operation.Origin.{Origin}
 use Rattle.trace_semantics.specs.declared.operation.Origin.TheVariants.{Any, Initial, Operation}
 use Rattle.trace_semantics.specs.Judgement.{is_held}
+use Rattle.trace_semantics.specs.KnownOrder.{ended_before}
 use Rattle.trace_semantics.specs.Operation.{same_op}
 use Rattle.trace_semantics.specs.Trace.{TraceValue, IsTrace, operation_at, operation_names}
 use Rattle.trace_semantics.specs.ValueAfter.{value_left_at}
@@ -46,9 +47,9 @@ module _ (t : TraceValue) (ok : IsTrace t) (first second : OpName → OpName →
   keeps n location d (Operation w) k = refl
 
   stay_of : (n : OpName) (op : Op) → IsSome (operation_at t n) → stays_of t first chosen n op ≡ stays_of t second chosen n op
-  stay_of n (Read location value origin) k = ap (λ b. cond b (Some (Read location value origin)) None) (keeps n location value origin k)
-  stay_of n (Write location value) k = refl
-  stay_of n (Update location read left origin) k = ap (λ b. Some (cond b (Update location read left origin) (Write location left))) (keeps n location read origin k)
+  stay_of n (Read location value origin span) k = ap (λ b. cond b (Some (Read location value origin span)) None) (keeps n location value origin k)
+  stay_of n (Write location value span) k = refl
+  stay_of n (Update location read left origin span) k = ap (λ b. Some (cond b (Update location read left origin span) (Write location left span))) (keeps n location read origin k)
 
   stay_by : (n : OpName) (o : Option Op) → operation_at t n ≡ o → option_and_then (stays_of t first chosen n) o ≡ option_and_then (stays_of t second chosen n) o
   stay_by n None e = refl
@@ -76,8 +77,8 @@ module _ (t : TraceValue) (ok : IsTrace t) (first second : OpName → OpName →
     same_nearer pair x h k l i = (bytes_eq x.process pair.0.process && (nat_lt pair.0.place x.place && agree x pair.1 l k i)) || (bytes_eq x.process pair.1.process && (nat_lt x.place pair.1.place && agree pair.0 x h l i))
 
     same_told : (pair : OpName × OpName) → IsSome (operation_at t pair.0) → IsSome (operation_at t pair.1) → is_told t first left pair ≡ is_told t second left pair
-    same_told pair h k = λ i. agree pair.0 pair.1 h k i && (not (bytes_eq pair.0.process pair.1.process)
-        && not (any_by (is_nearer first pair) (is_nearer second pair) (left_names t left) (λ x c. same_nearer pair x h k (name_known x c)) i))
+    same_told pair h k = λ i. (agree pair.0 pair.1 h k i && (not (bytes_eq pair.0.process pair.1.process)
+        && not (any_by (is_nearer first pair) (is_nearer second pair) (left_names t left) (λ x c. same_nearer pair x h k (name_known x c)) i))) && not (ended_before t pair.0 pair.1)
 
     pair_known : (pair : OpName × OpName) → Contains (left_pairs t left) pair → IsSome (operation_at t pair.0) × IsSome (operation_at t pair.1)
     pair_known pair c =

@@ -11,11 +11,13 @@ use Rattle.trace_semantics.specs.declared.operation.Op.{Op}
 use Rattle.trace_semantics.specs.declared.operation.Op.TheVariants.{Read, Write, Update}
 use Rattle.trace_semantics.specs.declared.operation.OpName.{OpName}
 use Rattle.trace_semantics.specs.declared.operation.Origin.{Origin}
+use Rattle.trace_semantics.specs.declared.operation.Span.{Span}
 use Rattle.trace_semantics.specs.declared.operation.Origin.TheVariants.{Any, Initial, Operation}
 use Rattle.trace_semantics.specs.Interleaving.{StandsBefore}
 use Rattle.trace_semantics.specs.Judgement.{is_held}
+use Rattle.trace_semantics.specs.KnownOrder.{ended_before}
 use Rattle.trace_semantics.specs.Legal.{ComesFrom, ReadsRight, IsLegal}
-use Rattle.trace_semantics.specs.Operation.{location_of, value_read, written_value, origin_of, same_op}
+use Rattle.trace_semantics.specs.Operation.{location_of, value_read, written_value, origin_of, span_of, same_op}
 use Rattle.trace_semantics.specs.Trace.{TraceValue, IsTrace, operation_at, operation_names, value_of}
 use Rattle.trace_semantics.specs.ValueAfter.{value_left_at, value_after}
 use Rattle.trace_semantics.proofs.CauseLemmas.{same_held}
@@ -24,14 +26,14 @@ use Rattle.trace_semantics.proofs.NameLemmas.{known_listed, listed_known, same_n
 use Rattle.trace_semantics.proofs.OrderLemmas.{stands_behind, stands_ahead, given_entry, entry_given}
 use Rattle.restriction.specs.Left.{is_left, new_name, new_op, new_pair, restricted}
 use Rattle.forced_order.specs.Order.{Obeys}
-use Rattle.part_law.specs.Part.{writes_at, writers_of, is_overwritten, may_be_source, sources, may_be_last, last_writers, keeps_read, stays_of, stays, stays_final, left_names, left_pairs, is_told, part}
+use Rattle.part_law.specs.Part.{writes_at, writers_of, is_overwritten, may_be_source, sources, may_be_last, last_writers, keeps_read, stays_of, stays, stays_final, left_names, left_pairs, is_nearest, is_told, part}
 use Rattle.restriction.proofs.LeftLemmas.{known_old, old_operation}
 use Rattle.restriction.proofs.PlaceLemmas.{in_front}
 use Rattle.restriction.proofs.ReadLemmas.{reads_left}
 use Rattle.restriction.proofs.RestrictLemmas.{placed_in, restriction_interleaves}
 use Rattle.restriction.proofs.StandLemmas.{stands_back, never_both}
 use Rattle.restriction.specs.LastWriter.{IsLast}
-use Rattle.restriction.specs.Restriction.{StaysAlike, left_by, ArePairsLeft}
+use Rattle.restriction.specs.Restriction.{StaysAlike, left_by, ArePairsLeft, KeepsSpans}
 use Rattle.restriction.proofs.WriterLemmas.{last_leaves, last_writes, writer_known, same_after}
 
 refuted : (b : Bool) → (b ≡ true → ⊥) → not b ≡ true
@@ -40,15 +42,15 @@ refuted b h = not_from_false b (false_from_ne_true b h)
 -- what stays of an operation leaves what the operation leaves
 left_of : (t : TraceValue) (ordered : OpName → OpName → Bool) (chosen : OpName → Bool) (location : List ℕ) (n : OpName) (op : Op) → is_some (stays_of t ordered chosen n op) ≡ true →
     option_and_then (left_by location) (stays_of t ordered chosen n op) ≡ left_by location op
-left_of t ordered chosen location n (Read place value origin) h = at (keeps_read t ordered chosen n place value origin) h
+left_of t ordered chosen location n (Read place value origin span) h = at (keeps_read t ordered chosen n place value origin) h
   where
-    at : (b : Bool) → is_some (cond b (Some (Read place value origin)) None) ≡ true → option_and_then (left_by location) (cond b (Some (Read place value origin)) None) ≡ left_by location (Read place value origin)
+    at : (b : Bool) → is_some (cond b (Some (Read place value origin span)) None) ≡ true → option_and_then (left_by location) (cond b (Some (Read place value origin span)) None) ≡ left_by location (Read place value origin span)
     at true k = refl
     at false k = absurd (cc)
-left_of t ordered chosen location n (Write place value) h = refl
-left_of t ordered chosen location n (Update place read left origin) h = at (keeps_read t ordered chosen n place read origin)
+left_of t ordered chosen location n (Write place value span) h = refl
+left_of t ordered chosen location n (Update place read left origin span) h = at (keeps_read t ordered chosen n place read origin)
   where
-    at : (b : Bool) → left_by location (cond b (Update place read left origin) (Write place left)) ≡ left_by location (Update place read left origin)
+    at : (b : Bool) → left_by location (cond b (Update place read left origin span) (Write place left span)) ≡ left_by location (Update place read left origin span)
     at true = refl
     at false = refl
 
@@ -83,6 +85,25 @@ part_alike t ordered chosen = record {
       ap (option_and_then (left_by location)) at.stays_is ∙ left_of t ordered chosen location n at.op at.there ∙ sym (ap (option_and_then (left_by location)) at.known));
 }
 
+-- what stays of an operation was under way when it was
+span_of_left : (t : TraceValue) (ordered : OpName → OpName → Bool) (chosen : OpName → Bool) (n : OpName) (op : Op) → is_some (stays_of t ordered chosen n op) ≡ true → option_and_then span_of (stays_of t ordered chosen n op) ≡ span_of op
+span_of_left t ordered chosen n (Read place value origin span) h = at (keeps_read t ordered chosen n place value origin) h
+  where
+    at : (b : Bool) → is_some (cond b (Some (Read place value origin span)) None) ≡ true → option_and_then span_of (cond b (Some (Read place value origin span)) None) ≡ span
+    at true k = refl
+    at false k = absurd (cc)
+span_of_left t ordered chosen n (Write place value span) h = refl
+span_of_left t ordered chosen n (Update place read left origin span) h = at (keeps_read t ordered chosen n place read origin)
+  where
+    at : (b : Bool) → span_of (cond b (Update place read left origin span) (Write place left span)) ≡ span
+    at true = refl
+    at false = refl
+
+pub part_spans : (t : TraceValue) (ordered : OpName → OpName → Bool) (chosen : OpName → Bool) → KeepsSpans t (stays t ordered chosen)
+part_spans t ordered chosen n h =
+    let at = comes t ordered chosen n h in
+    ap (option_and_then span_of) at.stays_is ∙ span_of_left t ordered chosen n at.op at.there ∙ sym (ap (option_and_then span_of) at.known)
+
 -- a chosen writer remains
 writer_stays : (t : TraceValue) (ordered : OpName → OpName → Bool) (chosen : OpName → Bool) (location : List ℕ) (w : OpName) (d : ℕ) → chosen w ≡ true → value_left_at t location w ≡ Some d → is_left (stays t ordered chosen) w ≡ true
 writer_stays t ordered chosen location w d e h = ap (λ b. is_some (cond b (option_and_then (stays_of t ordered chosen w) (operation_at t w)) None)) e ∙ by_op (operation_at t w) h
@@ -93,27 +114,27 @@ writer_stays t ordered chosen location w d e h = ap (λ b. is_some (cond b (opti
 
     by_op : (o : Option Op) → option_and_then (left_by location) o ≡ Some d → is_some (option_and_then (stays_of t ordered chosen w) o) ≡ true
     by_op None k = absurd (cc)
-    by_op (Some (Read place value origin)) k = absurd (none_left (bytes_eq place location) k)
-    by_op (Some (Write place value)) k = refl
-    by_op (Some (Update place read left origin)) k = refl
+    by_op (Some (Read place value origin span)) k = absurd (none_left (bytes_eq place location) k)
+    by_op (Some (Write place value span)) k = refl
+    by_op (Some (Update place read left origin span)) k = refl
 
 -- what stays of an operation: the whole of it, and then its read is kept, or what reads nothing
 pub data HowItStays (t : TraceValue) (ordered : OpName → OpName → Bool) (chosen : OpName → Bool) (n : OpName) (op new : Op) : Type 0 where
   Whole : op ≡ new → ((d : ℕ) → value_read op ≡ Some d → keeps_read t ordered chosen n (location_of op) d (origin_of op) ≡ true) → HowItStays t ordered chosen n op new
-  Unread : (location : List ℕ) (d : ℕ) → Write location d ≡ new → HowItStays t ordered chosen n op new
+  Unread : (location : List ℕ) (d : ℕ) (span : Option Span) → Write location d span ≡ new → HowItStays t ordered chosen n op new
 
 pub how_it_stays : (t : TraceValue) (ordered : OpName → OpName → Bool) (chosen : OpName → Bool) (n : OpName) (op new : Op) → stays_of t ordered chosen n op ≡ Some new → HowItStays t ordered chosen n op new
-how_it_stays t ordered chosen n (Read place value origin) new h = at (keeps_read t ordered chosen n place value origin) refl h
+how_it_stays t ordered chosen n (Read place value origin span) new h = at (keeps_read t ordered chosen n place value origin) refl h
   where
-    at : (b : Bool) → keeps_read t ordered chosen n place value origin ≡ b → cond b (Some (Read place value origin)) None ≡ Some new → HowItStays t ordered chosen n (Read place value origin) new
-    at true e k = Whole (same_Some (Read place value origin) new k) (λ d f. ap (λ v. keeps_read t ordered chosen n place v origin) (sym (same_Some value d f)) ∙ e)
+    at : (b : Bool) → keeps_read t ordered chosen n place value origin ≡ b → cond b (Some (Read place value origin span)) None ≡ Some new → HowItStays t ordered chosen n (Read place value origin span) new
+    at true e k = Whole (same_Some (Read place value origin span) new k) (λ d f. ap (λ v. keeps_read t ordered chosen n place v origin) (sym (same_Some value d f)) ∙ e)
     at false e k = absurd (cc)
-how_it_stays t ordered chosen n (Write place value) new h = Unread place value (same_Some (Write place value) new h)
-how_it_stays t ordered chosen n (Update place read left origin) new h = at (keeps_read t ordered chosen n place read origin) refl h
+how_it_stays t ordered chosen n (Write place value span) new h = Unread place value span (same_Some (Write place value span) new h)
+how_it_stays t ordered chosen n (Update place read left origin span) new h = at (keeps_read t ordered chosen n place read origin) refl h
   where
-    at : (b : Bool) → keeps_read t ordered chosen n place read origin ≡ b → Some (cond b (Update place read left origin) (Write place left)) ≡ Some new → HowItStays t ordered chosen n (Update place read left origin) new
-    at true e k = Whole (same_Some (Update place read left origin) new k) (λ d f. ap (λ v. keeps_read t ordered chosen n place v origin) (sym (same_Some read d f)) ∙ e)
-    at false e k = Unread place left (same_Some (Write place left) new k)
+    at : (b : Bool) → keeps_read t ordered chosen n place read origin ≡ b → Some (cond b (Update place read left origin span) (Write place left span)) ≡ Some new → HowItStays t ordered chosen n (Update place read left origin span) new
+    at true e k = Whole (same_Some (Update place read left origin span) new k) (λ d f. ap (λ v. keeps_read t ordered chosen n place v origin) (sym (same_Some read d f)) ∙ e)
+    at false e k = Unread place left span (same_Some (Write place left span) new k)
 
 module _ (t : TraceValue) (ok : IsTrace t) (ordered : OpName → OpName → Bool) (chosen : OpName → Bool) (names : List OpName) (legal : IsLegal t names) (obeyed : Obeys t names ordered) where
   abbrev left : OpName → Option Op
@@ -199,17 +220,17 @@ module _ (t : TraceValue) (ok : IsTrace t) (ordered : OpName → OpName → Bool
 
   reads_whole : (front : List OpName) (n : OpName) (back : List OpName) (op : Op) → names ≡ front ++ n ∷ back → ((d : ℕ) → value_read op ≡ Some d → keeps_read t ordered chosen n (location_of op) d (origin_of op) ≡ true) →
       ReadsRight t front op → ReadsRight (part t ordered chosen) (restricted left front) (new_op left op)
-  reads_whole front n back (Read location value origin) e keeps right =
+  reads_whole front n back (Read location value origin span) e keeps right =
       let same = same_after t (part t ordered chosen) ok left refl refl (part_alike t ordered chosen) location front (writer_left front n back location value origin e (keeps value refl) (right.value value refl) right.source) in
-      reads_left t (part t ordered chosen) left front (restricted left front) (Read location value origin) same.0 same.1 right
-  reads_whole front n back (Write location value) e keeps right = record { value = λ d f. absurd (cc); source = tt }
-  reads_whole front n back (Update location read left_there origin) e keeps right =
+      reads_left t (part t ordered chosen) left front (restricted left front) (Read location value origin span) same.0 same.1 right
+  reads_whole front n back (Write location value span) e keeps right = record { value = λ d f. absurd (cc); source = tt }
+  reads_whole front n back (Update location read left_there origin span) e keeps right =
       let same = same_after t (part t ordered chosen) ok left refl refl (part_alike t ordered chosen) location front (writer_left front n back location read origin e (keeps read refl) (right.value read refl) right.source) in
-      reads_left t (part t ordered chosen) left front (restricted left front) (Update location read left_there origin) same.0 same.1 right
+      reads_left t (part t ordered chosen) left front (restricted left front) (Update location read left_there origin span) same.0 same.1 right
 
   reads_by : (front : List OpName) (n : OpName) (back : List OpName) (op new : Op) → names ≡ front ++ n ∷ back → ReadsRight t front op → HowItStays t ordered chosen n op new → ReadsRight (part t ordered chosen) (restricted left front) (new_op left new)
   reads_by front n back op new e right (Whole same keeps) = subst (λ o. ReadsRight (part t ordered chosen) (restricted left front) (new_op left o)) same (reads_whole front n back op e keeps right)
-  reads_by front n back op new e right (Unread location d same) =
+  reads_by front n back op new e right (Unread location d span same) =
       subst (λ o. ReadsRight (part t ordered chosen) (restricted left front) (new_op left o)) same (record { value = λ v f. absurd (cc); source = tt })
 
   mapped_some : (o : Option Op) (new : Op) → option_map (new_op left) o ≡ Some new → (old : Op) × (o ≡ Some old) × (new_op left old ≡ new)
@@ -247,7 +268,7 @@ module _ (t : TraceValue) (ok : IsTrace t) (ordered : OpName → OpName → Bool
       let second = from_map (λ (n : OpName). (first.0, n)) (left_names t left) at.0 first.2 in
       let m_is : first.0 ≡ at.0.0 = ap (λ (p : OpName × OpName). p.0) second.2 in
       let n_is : second.0 ≡ at.0.1 = ap (λ (p : OpName × OpName). p.1) second.2 in
-      let told = and_parts (ordered at.0.0 at.0.1) _ there.1 in
+      let told = and_parts (ordered at.0.0 at.0.1) _ (and_parts (is_nearest t ordered left at.0) (not (ended_before t at.0.0 at.0.1)) there.1).0 in
       let m_left : is_left left at.0.0 ≡ true = ap (is_left left) (sym m_is) ∙ (from_filter (is_left left) (operation_names t) first.0 first.1).1 in
       let n_left : is_left left at.0.1 ≡ true = ap (is_left left) (sym n_is) ∙ (from_filter (is_left left) (operation_names t) second.0 second.1).1 in (
         at.0.0,
@@ -262,7 +283,7 @@ module _ (t : TraceValue) (ok : IsTrace t) (ordered : OpName → OpName → Bool
 pub restriction_legal : (t : TraceValue) → IsTrace t → (ordered : OpName → OpName → Bool) (chosen : OpName → Bool) (names : List OpName) → IsLegal t names → Obeys t names ordered →
     IsLegal (part t ordered chosen) (restricted (stays t ordered chosen) names)
 restriction_legal t ok ordered chosen names legal obeyed = record {
-  interleaving = restriction_interleaves t (part t ordered chosen) ok (stays t ordered chosen) refl names legal.interleaving (pairs_left t ok ordered chosen names legal obeyed);
+  interleaving = restriction_interleaves t (part t ordered chosen) ok (stays t ordered chosen) refl names legal.interleaving (pairs_left t ok ordered chosen names legal obeyed) (part_spans t ordered chosen);
   reads = part_reads t ok ordered chosen names legal obeyed;
   finals = finals_left t ok ordered chosen names legal obeyed;
 }

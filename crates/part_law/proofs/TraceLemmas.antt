@@ -17,21 +17,22 @@ use Rattle.trace_semantics.specs.declared.operation.Op.TheVariants.{Read, Write,
 use Rattle.trace_semantics.specs.declared.operation.OpName.{OpName}
 use Rattle.trace_semantics.specs.declared.operation.Origin.TheVariants.{Any, Operation}
 use Rattle.trace_semantics.specs.declared.trace.Process.{Process}
+use Rattle.trace_semantics.specs.KnownOrder.{ended_before}
 use Rattle.trace_semantics.specs.Names.{is_name}
 use Rattle.trace_semantics.specs.Operation.{location_of, written_value, origin_of}
 use Rattle.trace_semantics.specs.PairOrder.{order_of, pair_order, ArePairsRising}
 use Rattle.trace_semantics.specs.declared.limits.Limits.TheVariants.{Large}
 use Rattle.trace_semantics.specs.Limits.{max_pairs}
-use Rattle.trace_semantics.specs.Trace.{TraceValue, IsTrace, operation_at, operation_names, is_written_value, is_written_name, is_written_origin, is_written_op, is_written_process, is_written_pair, locations_of}
+use Rattle.trace_semantics.specs.Trace.{TraceValue, IsTrace, operation_at, operation_names, is_written_value, is_written_name, is_written_origin, is_written_span, is_written_op, is_written_process, is_written_pair, locations_of}
 use Rattle.trace_semantics.proofs.DistinctLemmas.{few_named}
 use Rattle.trace_semantics.proofs.ElementLemmas.{all_pass, pass_all, from_map, to_map, from_filter, from_flat_map}
 use Rattle.trace_semantics.proofs.NameLemmas.{bytes_same, from_first}
 use Rattle.restriction.specs.Left.{is_left, new_name, new_pair, names_of, left_process}
-use Rattle.part_law.specs.Part.{keeps_read, stays_of, stays, stays_final, left_names, left_pairs, is_told, part}
+use Rattle.part_law.specs.Part.{keeps_read, stays_of, stays, stays_final, left_names, left_pairs, is_nearest, is_told, part}
 use Rattle.restriction.proofs.OrderedPairLemmas.{all_from, pairs_in_front, pairs_flat, pairs_mapped, IsEarlierName, IsEarlierPair, pair_less, processes_rise, names_rise}
-use Rattle.part_law.proofs.PartLemmas.{comes, HowItStays, Whole, Unread, how_it_stays}
+use Rattle.part_law.proofs.PartLemmas.{comes, part_spans, HowItStays, Whole, Unread, how_it_stays}
 use Rattle.restriction.proofs.PlaceLemmas.{in_front}
-use Rattle.restriction.proofs.TraceLeftLemmas.{StaysWell, few_in_all, distinct_names, origins_known, written_process, known_new, name_written, written_name, location_there}
+use Rattle.restriction.proofs.TraceLeftLemmas.{StaysWell, few_in_all, distinct_names, origins_known, spans_fine, written_process, known_new, name_written, written_name, location_there}
 
 -- what stays in a part
 module _ (t : TraceValue) (ordered : OpName → OpName → Bool) (chosen : OpName → Bool) where
@@ -40,47 +41,49 @@ module _ (t : TraceValue) (ordered : OpName → OpName → Bool) (chosen : OpNam
     where
       by_op : (p : Option Op) → is_some (option_and_then written_value p) ≡ true → is_some (option_and_then (stays_of t ordered chosen w) p) ≡ true
       by_op None l = absurd (cc)
-      by_op (Some (Read place value origin)) l = absurd (cc)
-      by_op (Some (Write place value)) l = refl
-      by_op (Some (Update place read left origin)) l = refl
+      by_op (Some (Read place value origin span)) l = absurd (cc)
+      by_op (Some (Write place value span)) l = refl
+      by_op (Some (Update place read left origin span)) l = refl
 
   stays_location : (n : OpName) (op new : Op) → stays_of t ordered chosen n op ≡ Some new → location_of new ≡ location_of op
-  stays_location n (Read place value origin) new h = at (keeps_read t ordered chosen n place value origin) h
+  stays_location n (Read place value origin span) new h = at (keeps_read t ordered chosen n place value origin) h
     where
-      at : (b : Bool) → cond b (Some (Read place value origin)) None ≡ Some new → location_of new ≡ place
-      at true k = ap location_of (sym (same_Some (Read place value origin) new k))
+      at : (b : Bool) → cond b (Some (Read place value origin span)) None ≡ Some new → location_of new ≡ place
+      at true k = ap location_of (sym (same_Some (Read place value origin span) new k))
       at false k = absurd (cc)
-  stays_location n (Write place value) new h = ap location_of (sym (same_Some (Write place value) new h))
-  stays_location n (Update place read left origin) new h = at (keeps_read t ordered chosen n place read origin) h
+  stays_location n (Write place value span) new h = ap location_of (sym (same_Some (Write place value span) new h))
+  stays_location n (Update place read left origin span) new h = at (keeps_read t ordered chosen n place read origin) h
     where
-      at : (b : Bool) → Some (cond b (Update place read left origin) (Write place left)) ≡ Some new → location_of new ≡ place
-      at true k = ap location_of (sym (same_Some (Update place read left origin) new k))
-      at false k = ap location_of (sym (same_Some (Write place left) new k))
+      at : (b : Bool) → Some (cond b (Update place read left origin span) (Write place left span)) ≡ Some new → location_of new ≡ place
+      at true k = ap location_of (sym (same_Some (Update place read left origin span) new k))
+      at false k = ap location_of (sym (same_Some (Write place left span) new k))
 
   stays_written : (n : OpName) (op new : Op) → stays_of t ordered chosen n op ≡ Some new → is_written_op op ≡ true → is_written_op new ≡ true
-  stays_written n (Read place value origin) new h w = at (keeps_read t ordered chosen n place value origin) h
+  stays_written n (Read place value origin span) new h w = at (keeps_read t ordered chosen n place value origin) h
     where
-      at : (b : Bool) → cond b (Some (Read place value origin)) None ≡ Some new → is_written_op new ≡ true
-      at true k = ap is_written_op (sym (same_Some (Read place value origin) new k)) ∙ w
+      at : (b : Bool) → cond b (Some (Read place value origin span)) None ≡ Some new → is_written_op new ≡ true
+      at true k = ap is_written_op (sym (same_Some (Read place value origin span) new k)) ∙ w
       at false k = absurd (cc)
-  stays_written n (Write place value) new h w = ap is_written_op (sym (same_Some (Write place value) new h)) ∙ w
-  stays_written n (Update place read left origin) new h w =
-      let parts = and_parts (is_name place) (nat_lt read (2 ^ 64) && (nat_lt left (2 ^ 64) && is_written_origin origin)) w in
-      let values = and_parts (nat_lt read (2 ^ 64)) (nat_lt left (2 ^ 64) && is_written_origin origin) parts.1 in
-      at (keeps_read t ordered chosen n place read origin) (and_from (is_name place) (nat_lt left (2 ^ 64)) parts.0 (and_parts (nat_lt left (2 ^ 64)) (is_written_origin origin) values.1).0) h
+  stays_written n (Write place value span) new h w = ap is_written_op (sym (same_Some (Write place value span) new h)) ∙ w
+  stays_written n (Update place read left origin span) new h w =
+      let parts = and_parts (is_name place) (nat_lt read (2 ^ 64) && (nat_lt left (2 ^ 64) && (is_written_origin origin && is_written_span span))) w in
+      let values = and_parts (nat_lt read (2 ^ 64)) (nat_lt left (2 ^ 64) && (is_written_origin origin && is_written_span span)) parts.1 in
+      let rest = and_parts (nat_lt left (2 ^ 64)) (is_written_origin origin && is_written_span span) values.1 in
+      let times = and_parts (is_written_origin origin) (is_written_span span) rest.1 in
+      at (keeps_read t ordered chosen n place read origin) (and_from (is_name place) (nat_lt left (2 ^ 64) && is_written_span span) parts.0 (and_from (nat_lt left (2 ^ 64)) (is_written_span span) rest.0 times.1)) h
     where
-      at : (b : Bool) → is_written_op (Write place left) ≡ true → Some (cond b (Update place read left origin) (Write place left)) ≡ Some new → is_written_op new ≡ true
-      at true l k = ap is_written_op (sym (same_Some (Update place read left origin) new k)) ∙ w
-      at false l k = ap is_written_op (sym (same_Some (Write place left) new k)) ∙ l
+      at : (b : Bool) → is_written_op (Write place left span) ≡ true → Some (cond b (Update place read left origin span) (Write place left span)) ≡ Some new → is_written_op new ≡ true
+      at true l k = ap is_written_op (sym (same_Some (Update place read left origin span) new k)) ∙ w
+      at false l k = ap is_written_op (sym (same_Some (Write place left span) new k)) ∙ l
 
   stays_from : (n : OpName) (op new : Op) (w : OpName) → HowItStays t ordered chosen n op new → origin_of new ≡ Operation w → is_left (stays t ordered chosen) w ≡ true
-  stays_from n op new w (Unread location d same) e = absurd (let clash : Any ≡ Operation w = ap origin_of same ∙ e in cc)
-  stays_from n (Write location value) new w (Whole same keeps) e = absurd (let clash : Any ≡ Operation w = ap origin_of same ∙ e in cc)
-  stays_from n (Read location value origin) new w (Whole same keeps) e =
+  stays_from n op new w (Unread location d span same) e = absurd (let clash : Any ≡ Operation w = ap origin_of same ∙ e in cc)
+  stays_from n (Write location value span) new w (Whole same keeps) e = absurd (let clash : Any ≡ Operation w = ap origin_of same ∙ e in cc)
+  stays_from n (Read location value origin span) new w (Whole same keeps) e =
       let named : origin ≡ Operation w = ap origin_of same ∙ e in
       let kept = and_parts (chosen w) (is_some (option_and_then written_value (operation_at t w))) (ap (keeps_read t ordered chosen n location value) (sym named) ∙ keeps value refl) in
       origin_left w (operation_at t w) refl kept.0 kept.1
-  stays_from n (Update location read left origin) new w (Whole same keeps) e =
+  stays_from n (Update location read left origin span) new w (Whole same keeps) e =
       let named : origin ≡ Operation w = ap origin_of same ∙ e in
       let kept = and_parts (chosen w) (is_some (option_and_then written_value (operation_at t w))) (ap (keeps_read t ordered chosen n location read) (sym named) ∙ keeps read refl) in
       origin_left w (operation_at t w) refl kept.0 kept.1
@@ -98,6 +101,7 @@ module _ (t : TraceValue) (ordered : OpName → OpName → Bool) (chosen : OpNam
     location = λ n op new e h. stays_location n op new (stays_known n op new e h);
     written = λ n op new e h w. stays_written n op new (stays_known n op new e h) w;
     origin = λ n new w h e. (let at = comes t ordered chosen n (ap is_some h) in stays_from n at.op new w (how_it_stays t ordered chosen n at.op new (sym at.stays_is ∙ h)) e);
+    spans = part_spans t ordered chosen;
   }
 
 -- the pairs of a part
@@ -141,7 +145,7 @@ module _ (t : TraceValue) (ok : IsTrace t) (ordered : OpName → OpName → Bool
       let second = from_map (λ (n : OpName). (first.0, n)) (left_names t left) pair first.2 in
       let m_is : first.0 ≡ pair.0 = ap (λ (p : OpName × OpName). p.0) second.2 in
       let n_is : second.0 ≡ pair.1 = ap (λ (p : OpName × OpName). p.1) second.2 in
-      let parts = and_parts (ordered pair.0 pair.1) _ there.1 in
+      let parts = and_parts (ordered pair.0 pair.1) _ (and_parts (is_nearest t ordered left pair) (not (ended_before t pair.0 pair.1)) there.1).0 in
       let other = and_parts (not (bytes_eq pair.0.process pair.1.process)) _ parts.1 in
       record {
         first = ap (is_left left) (sym m_is) ∙ (from_filter (is_left left) (operation_names t) first.0 first.1).1;
@@ -240,6 +244,7 @@ part_is_trace t ok ordered chosen =
       final_order = AllPairs-filter (λ (x y : List ℕ × ℕ). slice_cmp nat_cmp x.0 y.0 ≡ Less) (stays_final t ordered chosen) t.final_values ok.final_order;
       before_apart = pairs_apart t ok ordered chosen;
       origins = origins_known t (part t ordered chosen) ok (stays t ordered chosen) refl well;
+      spans = spans_fine t (part t ordered chosen) ok (stays t ordered chosen) refl well;
       before_order = pairs_rise t ok ordered chosen;
       few_locations = omega (arith, few_named (locations_of (part t ordered chosen)) (locations_of t) (locations_there t ok ordered chosen), ok.few_locations);
     }

@@ -12,6 +12,7 @@ use Rattle.trace_semantics.specs.declared.operation.OpName.{OpName}
 use Rattle.trace_semantics.specs.declared.operation.Origin.{Origin}
 use Rattle.trace_semantics.specs.declared.operation.Origin.TheVariants.{Any, Initial, Operation}
 use Rattle.trace_semantics.specs.Judgement.{is_held}
+use Rattle.trace_semantics.specs.KnownOrder.{ended_before}
 use Rattle.trace_semantics.specs.Operation.{written_value, same_op}
 use Rattle.trace_semantics.specs.Trace.{TraceValue, operation_at, operation_names}
 use Rattle.trace_semantics.specs.ValueAfter.{value_left_at}
@@ -52,11 +53,11 @@ keeps_read t ordered chosen n location d Any = list_all chosen (sources t ordere
 keeps_read t ordered chosen n location d Initial = true
 keeps_read t ordered chosen n location d (Operation w) = chosen w && is_some (option_and_then written_value (operation_at t w))
 
--- what stays of a chosen operation: if the part does not say what it reads, a read is left out, and an update becomes a write
+-- what stays of a chosen operation, with its times: if the part does not say what it reads, a read is left out, and an update becomes a write
 abbrev pub stays_of : TraceValue → (OpName → OpName → Bool) → (OpName → Bool) → OpName → Op → Option Op
-stays_of t ordered chosen n (Read location value origin) = if keeps_read t ordered chosen n location value origin then Some (Read location value origin) else None
-stays_of t ordered chosen n (Write location value) = Some (Write location value)
-stays_of t ordered chosen n (Update location read left origin) = Some (if keeps_read t ordered chosen n location read origin then Update location read left origin else Write location left)
+stays_of t ordered chosen n (Read location value origin span) = if keeps_read t ordered chosen n location value origin then Some (Read location value origin span) else None
+stays_of t ordered chosen n (Write location value span) = Some (Write location value span)
+stays_of t ordered chosen n (Update location read left origin span) = Some (if keeps_read t ordered chosen n location read origin then Update location read left origin span else Write location left span)
 
 -- what stays of an operation: of those that are not chosen, nothing
 abbrev pub stays : TraceValue → (OpName → OpName → Bool) → (OpName → Bool) → OpName → Option Op
@@ -80,9 +81,13 @@ abbrev pub is_nearer : (OpName → OpName → Bool) → OpName × OpName → OpN
 is_nearer ordered pair x = (bytes_eq x.process pair.0.process && (nat_lt pair.0.place x.place && ordered x pair.1))
     || (bytes_eq x.process pair.1.process && (nat_lt x.place pair.1.place && ordered pair.0 x))
 
--- a pair of the part: the first stands before the second, they are of two processes, and no pair of operations that remain says more
+-- the first stands before the second, they are of two processes, and no pair of operations that remain says more
+abbrev pub is_nearest : TraceValue → (OpName → OpName → Bool) → (OpName → Option Op) → OpName × OpName → Bool
+is_nearest t ordered left pair = ordered pair.0 pair.1 && (not (bytes_eq pair.0.process pair.1.process) && not (list_any (is_nearer ordered pair) (left_names t left)))
+
+-- a pair of the part: one of the nearest, if it does not follow from the times that remain
 abbrev pub is_told : TraceValue → (OpName → OpName → Bool) → (OpName → Option Op) → OpName × OpName → Bool
-is_told t ordered left pair = ordered pair.0 pair.1 && (not (bytes_eq pair.0.process pair.1.process) && not (list_any (is_nearer ordered pair) (left_names t left)))
+is_told t ordered left pair = is_nearest t ordered left pair && not (ended_before t pair.0 pair.1)
 
 -- the part: what remains of each process, all initial values, the final values that stay, and the first 4,096 of its pairs, as many as
 -- a text of version 2 may have, all under the new names

@@ -167,7 +167,8 @@ fn draw_plain(svg: &mut SvgText, line: &mut LegendLine, entries: &LegendEntries)
         line.arrow(svg, b"source", b"blue", words);
     }
     if entries.before {
-        let words = b"known order: what before lines say of the operations that are drawn";
+        let words =
+            b"known order: what before lines and times say of the operations that are drawn";
         line.arrow(svg, b"before", b"violet", words);
     }
     if entries.derived {

@@ -62,16 +62,22 @@ fn append_operation(text: &mut Vec<u8>, op: &Op, names: ShownNames<'_>) -> Resul
             location,
             value,
             origin,
+            ..
         } => {
             append_access(text, b"R", location.as_bytes(), *value)?;
             append_origin(text, origin, names)
         }
-        Op::Write { location, value } => append_access(text, b"W", location.as_bytes(), *value),
+        Op::Write {
+            location,
+            value,
+            ..
+        } => append_access(text, b"W", location.as_bytes(), *value),
         Op::Update {
             location,
             read,
             left,
             origin,
+            ..
         } => {
             append_access(text, b"U", location.as_bytes(), *read)?;
             let left = decimal(*left);

@@ -17,7 +17,7 @@ use Rattle.lrat_check.proofs.SoundLemmas.{no_model, formula_no_zero}
 use Rattle.order_reasons.specs.Orders.{HoldsOfSchedules, orders_said}
 use Rattle.order_reasons.specs.Sources.{IsSourceClause}
 use Rattle.order_reasons.proofs.CountReasons.{counted}
-use Rattle.order_reasons.proofs.OrderReasons.{cycle_holds, pair_stands}
+use Rattle.order_reasons.proofs.OrderReasons.{cycle_holds, pair_stands, times_stand}
 use Rattle.order_reasons.proofs.WaitReasons.{first_waits}
 use Rattle.order_reasons.proofs.ScheduleModel.{no_schedule as unsatisfiable}
 use Rattle.order_reasons.proofs.SourceReasons.{last_writers_barred, lost_final, sources_barred}
@@ -27,7 +27,7 @@ use Rattle.order_clauses.specs.declared.order_pair.OrderPair.{OrderPair}
 use Rattle.reason_clauses.specs.Made.{IsCycleOf, IsLastOf}
 use Rattle.reason_counting.proofs.CountLemmas.{too_few}
 use Rattle.reason_text.specs.declared.reason_line.ReasonLine.{ReasonLine}
-use Rattle.reason_text.specs.declared.reason_line.ReasonLine.TheVariants.{Skipped, Cycle, Before, Variable, Source, Last, TooFew, Counting, Waiting, Derivation}
+use Rattle.reason_text.specs.declared.reason_line.ReasonLine.TheVariants.{Skipped, Cycle, Before, Ended, Variable, Source, Last, TooFew, Counting, Waiting, Derivation}
 use Rattle.reason_check.specs.Accepted.{IsAcceptedReasons, EndsEmpty, HasDerivation, NoneIsEmpty}
 use Rattle.reason_check.specs.LineClauses.{IsClauseOfLine}
 use Rattle.reason_check.proofs.LineLemmas.{Made, speaks}
@@ -66,6 +66,7 @@ module _ (t : TraceValue) (ok : IsTrace t) where
   clause_holds Skipped clause h = absurd h
   clause_holds (Cycle operations) clause h = cycle_turned (map (named t) operations.items) clause h
   clause_holds (Before pair) clause h = λ schedule legal. pair_stands t schedule legal.interleaving clause (named t pair.first) (named t pair.second) h
+  clause_holds (Ended pair) clause h = λ schedule legal. times_stand t schedule legal.interleaving clause (named t pair.first) (named t pair.second) h
   clause_holds (Variable pair) clause h = absurd h
   clause_holds (Source reader pieces) clause h = source_barred (named t reader) clause h
   clause_holds (Last location pieces) clause h = last_barred location.now clause h

@@ -25,7 +25,7 @@ use Rattle.reason_clauses.specs.Numbered.{AreIn}
 use Rattle.reason_counting.specs.Counts.{AreTooFew}
 use Rattle.reason_text.specs.ReasonLine.{IsReasonLine}
 use Rattle.reason_text.specs.declared.reason_line.ReasonLine.{ReasonLine}
-use Rattle.reason_text.specs.declared.reason_line.ReasonLine.TheVariants.{Skipped, Cycle, Before, Variable, Source, Last, TooFew, Counting, Waiting, Derivation as DerivationLine}
+use Rattle.reason_text.specs.declared.reason_line.ReasonLine.TheVariants.{Skipped, Cycle, Before, Ended, Variable, Source, Last, TooFew, Counting, Waiting, Derivation as DerivationLine}
 use Rattle.reason_check.specs.LineClauses.{IsClauseOfLine, MakeClauses, is_silent}
 use Rattle.reason_check.specs.Reading.{IsReadAndTaken}
 use Rattle.reason_check.specs.Taken.{AreMade, HasNext, IsPassed, IsTaken}
@@ -144,6 +144,7 @@ module _ (t : TraceValue) where
   clause_speaks Skipped clause h = absurd h
   clause_speaks (Cycle operations) clause h = refl
   clause_speaks (Before pair) clause h = refl
+  clause_speaks (Ended pair) clause h = refl
   clause_speaks (Variable pair) clause h = absurd h
   clause_speaks (Source reader pieces) clause h = refl
   clause_speaks (Last location pieces) clause h = refl

@@ -6,13 +6,13 @@ use Rattle.order_clauses.specs.ReasonList.{named_pairs}
 use Rattle.order_clauses.specs.declared.order_pair.OrderPair.{OrderPair}
 use Rattle.order_reasons.specs.Counting.{NeedsSource, IsCountingClause}
 use Rattle.order_reasons.specs.Orders.{orders_said}
-use Rattle.order_reasons.specs.Reasons.{IsPairClause}
+use Rattle.order_reasons.specs.Reasons.{IsPairClause, IsTimesClause}
 use Rattle.order_reasons.specs.Sources.{ValueSource, IsSourceClause}
 use Rattle.order_reasons.specs.Waiting.{IsWaitingClause}
 use Rattle.reason_clauses.specs.Made.{IsCycleOf, IsLastOf}
 use Rattle.reason_counting.specs.Counts.{AreTooFew}
 use Rattle.reason_text.specs.declared.reason_line.ReasonLine.{ReasonLine}
-use Rattle.reason_text.specs.declared.reason_line.ReasonLine.TheVariants.{Skipped, Cycle, Before, Variable, Source, Last, TooFew, Counting, Waiting, Derivation}
+use Rattle.reason_text.specs.declared.reason_line.ReasonLine.TheVariants.{Skipped, Cycle, Before, Ended, Variable, Source, Last, TooFew, Counting, Waiting, Derivation}
 use Rattle.trace_semantics.specs.declared.operation.OpName.{OpName}
 use Rattle.trace_semantics.specs.Trace.{TraceValue}
 
@@ -25,12 +25,13 @@ abbrev pub IsWaitingOf : TraceValue → List (OpName × OpName) → Type 0
 IsWaitingOf t clause = (members : List OpName) × IsWaitingClause t clause members
 
 -- The clause, a list of orders, follows from the trace by what the line names: a cycle, of which each step is turned round; a before pair of
--- the trace; a reading operation, of which each possible source is barred; a location, of which each possible last writer is; a location and
--- a value with too few sources, where no order is left; updates and ends of locations that are more than the sources that are not barred; or
--- operations that wait for one another. Other lines make no clause.
+-- the trace; two operations of which one had ended before the other began; a reading operation, of which each possible source is barred; a
+-- location, of which each possible last writer is; a location and a value with too few sources, where no order is left; updates and ends of
+-- locations that are more than the sources that are not barred; or operations that wait for one another. Other lines make no clause.
 abbrev pub IsClauseOfLine : TraceValue → ReasonLine → List (OpName × OpName) → Type 0
 IsClauseOfLine t (Cycle operations) clause = IsCycleOf t (map (named t) operations.items) clause
 IsClauseOfLine t (Before pair) clause = IsPairClause t clause (named t pair.first) (named t pair.second)
+IsClauseOfLine t (Ended pair) clause = IsTimesClause t clause (named t pair.first) (named t pair.second)
 IsClauseOfLine t (Source reader pieces) clause = IsSourceClause t clause (named t reader)
 IsClauseOfLine t (Last location pieces) clause = IsLastOf t location.now clause
 IsClauseOfLine t (TooFew location value) clause = (clause ≡ []) × AreTooFew t location.now value

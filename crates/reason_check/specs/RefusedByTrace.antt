@@ -5,6 +5,7 @@ use Rattle.order_clauses.specs.Unmade.{AreAlwaysTrue, AreFull}
 use Rattle.order_clauses.specs.declared.order_pair.OrderPair.{OrderPair}
 use Rattle.reason_clauses.specs.AddedOrders.{IsOpen, IsOrder}
 use Rattle.reason_clauses.specs.CycleRefused.{IsCycleRefused, IsTurnedStep}
+use Rattle.reason_clauses.specs.EndedRefused.{IsEndedRefused}
 use Rattle.reason_clauses.specs.LastRefused.{IsLastOrder, IsLastRefused}
 use Rattle.reason_clauses.specs.PairRefused.{IsPairRefused}
 use Rattle.reason_clauses.specs.SourceRefused.{IsSourceOrder, IsSourceRefused}
@@ -20,7 +21,7 @@ use Rattle.reason_check.specs.Gathered.{AreGathered, HasSecond, IsLateRefused}
 use Rattle.reason_check.specs.Members.{AreMembers, AreMembersRefused, AreWaiters, AreWaitersRefused}
 use Rattle.reason_text.specs.declared.member_part.MemberPart.{MemberPart}
 use Rattle.reason_text.specs.declared.reason_line.ReasonLine.{ReasonLine}
-use Rattle.reason_text.specs.declared.reason_line.ReasonLine.TheVariants.{Skipped, Cycle, Before, Variable, Source, Last, TooFew, Counting, Waiting, Derivation}
+use Rattle.reason_text.specs.declared.reason_line.ReasonLine.TheVariants.{Skipped, Cycle, Before, Ended, Variable, Source, Last, TooFew, Counting, Waiting, Derivation}
 use Rattle.reason_text.specs.declared.source_piece.SourcePiece.{SourcePiece}
 use Rattle.trace_semantics.specs.Trace.{TraceValue}
 use Rattle.writer_table.specs.declared.operation_place.OperationPlace.{OperationPlace}
@@ -69,6 +70,7 @@ IsWaitingLineRefused t parts cause =
 abbrev pub IsRefusedByTrace : TraceValue → ReasonLine → ReasonCause → Type 0
 IsRefusedByTrace t (Cycle operations) cause = IsCycleRefused t operations.items cause ⊎ IsNoClause (IsTurnedStep operations.items) cause
 IsRefusedByTrace t (Before pair) cause = IsPairRefused t pair cause ⊎ IsNoClause (IsOrder pair.first pair.second) cause
+IsRefusedByTrace t (Ended pair) cause = IsEndedRefused t pair cause ⊎ IsNoClause (IsOrder pair.first pair.second) cause
 IsRefusedByTrace t (Variable pair) cause = IsNumberingRefused pair cause
 IsRefusedByTrace t (TooFew location value) cause = IsEnough t location.now value cause
 IsRefusedByTrace t (Source reader pieces) cause = IsSourceLineRefused t reader pieces.items cause

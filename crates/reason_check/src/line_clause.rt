@@ -4,10 +4,11 @@ ghost use Rattle.std.specs.Prelude.{◌≡◌, ◌≢◌, ◌↔◌, ◌⊎◌, 
 ghost use Rattle.order_clauses.specs.Appended.{IsAppended};
 ghost use Rattle.order_clauses.specs.Numbered.{named};
 ghost use Rattle.order_clauses.specs.declared.reason_list.ClauseOutcome.TheVariants.{Made, AlwaysTrue, TooManyVariables};
-ghost use Rattle.order_reasons.specs.Reasons.{IsPairClause};
+ghost use Rattle.order_reasons.specs.Reasons.{IsPairClause, IsTimesClause};
 ghost use Rattle.order_reasons.specs.Sources.{IsSourceClause};
 ghost use Rattle.reason_clauses.specs.AddedOrders.{IsOrder};
 ghost use Rattle.reason_clauses.specs.CycleRefused.{IsCycleRefused, IsTurnedStep};
+ghost use Rattle.reason_clauses.specs.EndedRefused.{IsEndedRefused};
 ghost use Rattle.reason_clauses.specs.Made.{IsCycleOf, IsLastOf};
 ghost use Rattle.reason_clauses.specs.PairRefused.{IsPairRefused};
 ghost use Rattle.reason_clauses.specs.RefusedBy.{IsRefusedBy};
@@ -26,6 +27,7 @@ use order_clauses::order_pair::OrderPair;
 use order_clauses::reason_list::{ClauseOutcome, ReasonList};
 use reason_clauses::cause::{ReasonCause, ReasonRefusal};
 use reason_clauses::cycle::cycle_clause;
+use reason_clauses::ended::ended_clause;
 use reason_clauses::last::last_clause;
 use reason_clauses::pair::pair_clause;
 use reason_clauses::source::source_clause;
@@ -113,6 +115,21 @@ fn add_before(
 {
     let mut orders = Vec::new(alloc);
     pair_clause(trace, before.place(pair), pair, &mut orders)?;
+    add_orders(alloc, orders.as_slice(), list)
+}
+
+/// Adds the clause that what had ended stands before what began after it.
+fn add_ended(
+    alloc: Global,
+    trace: &Trace,
+    pair: OrderPair,
+    list: &mut ReasonList,
+) -> Result<LineOutcome, ReasonRefusal>
+    ensures made { IfOk result (HasNext trace.now (λ clause. IsTimesClause trace.now clause (named trace.now pair.first) (named trace.now pair.second)) list.old list.new) }
+    ensures refused { IfErr result (IsRefusedBy (λ cause. IsEndedRefused trace.now pair cause ⊎ IsNoClause (IsOrder pair.first pair.second) cause)) }
+{
+    let mut orders = Vec::new(alloc);
+    ended_clause(trace, pair, &mut orders)?;
     add_orders(alloc, orders.as_slice(), list)
 }
 
@@ -234,6 +251,7 @@ pub fn take_line<'a>(
         ReasonLine::Skipped => Ok(LineOutcome::More),
         ReasonLine::Cycle(operations) => add_cycle(alloc, trace, operations.as_slice(), list),
         ReasonLine::Before(pair) => add_before(alloc, trace, &tables.before, pair, list),
+        ReasonLine::Ended(pair) => add_ended(alloc, trace, pair, list),
         ReasonLine::Source(reader, pieces) => add_source(
             alloc,
             trace,

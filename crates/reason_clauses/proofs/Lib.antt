@@ -1,5 +1,6 @@
 pub mod AddedLemmas
 pub mod CycleLemmas
+pub mod EndedLemmas
 pub mod LastLemmas
 pub mod MakerLemmas
 pub mod MissingLemmas

@@ -113,7 +113,7 @@ table_known t ok writers holds location d run listed k there =
     number_known t (at_number run.process k) (get_or p.operations j blank) (number_of_operation t ok (at_number run.process k) p (get_or p.operations j blank) at.0 is (omega (arith, next)) (slice_get-get_or p.operations j blank inside))
   where
     blank : Op
-    blank = Write [] 0
+    blank = Write [] 0 None
 
 -- what is barred of the runs of the table, and of the reader's own process, is all that the reader may read
 pub sources_by : (t : TraceValue) → IsTrace t → (writers : TraceWriters) → HoldsWriters t writers → (mid new : List OrderPair) (r : OperationPlace) (origin : Origin) (own : ℕ) (pieces : SourcePieces) (location : List ℕ) (d : ℕ) → IsOwnSource t r origin location d own →

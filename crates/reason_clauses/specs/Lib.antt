@@ -3,6 +3,7 @@ pub mod Barred
 pub mod Cause
 pub mod Cycle
 pub mod CycleRefused
+pub mod EndedRefused
 pub mod LastBarred
 pub mod LastRefused
 pub mod Made

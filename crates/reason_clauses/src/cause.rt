@@ -18,7 +18,7 @@ pub enum ReasonCause {
     InitialLeft,
     /// A cycle is too short, or has a step from an operation to itself.
     BadCycle,
-    /// The trace does not put the first operation before the second.
+    /// The trace has no before pair of the first operation and the second, or the first had not ended before the second began.
     NoPair,
     /// There are enough sources for those that are counted.
     EnoughSources,

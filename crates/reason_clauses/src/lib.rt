@@ -4,6 +4,7 @@
 pub mod barring;
 pub mod cause;
 pub mod cycle;
+pub mod ended;
 pub mod held_at;
 pub mod last;
 pub mod lookups;

@@ -12,7 +12,7 @@ use Rattle.trace_semantics.proofs.ElementLemmas.{cases_in, none_in}
 use Rattle.reason_text.specs.Header.{is_header, HasHeader}
 use Rattle.reason_text.specs.ReasonLine.{AreLineWords, IsReasonLine}
 use Rattle.reason_text.specs.declared.reason_line.ReasonLine.{ReasonLine}
-use Rattle.reason_text.specs.declared.reason_line.ReasonLine.TheVariants.{Skipped, Cycle, Before, Variable, Source, Last, TooFew, Counting, Waiting, Derivation as DerivationLine}
+use Rattle.reason_text.specs.declared.reason_line.ReasonLine.TheVariants.{Skipped, Cycle, Before, Ended as EndedLine, Variable, Source, Last, TooFew, Counting, Waiting, Derivation as DerivationLine}
 use Rattle.reason_check.specs.LineClauses.{is_silent}
 use Rattle.reason_check.proofs.LineLemmas.{zip_push}
 use Rattle.reason_notes.specs.declared.first_lines.LinesWanted.{LinesWanted}
@@ -66,6 +66,7 @@ module _ (t : TraceValue) (text : List ℕ) (most : ℕ) where
     clause_speaks Skipped next k = absurd k.1
     clause_speaks (Cycle operations) next k = refl
     clause_speaks (Before pair) next k = refl
+    clause_speaks (EndedLine pair) next k = refl
     clause_speaks (Variable pair) next k = absurd k.1
     clause_speaks (Source reader pieces) next k = refl
     clause_speaks (Last location pieces) next k = refl

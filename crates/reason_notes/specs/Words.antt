@@ -14,7 +14,7 @@ use Rattle.reason_text.specs.OperationWord.{operation_word}
 use Rattle.reason_text.specs.declared.member_part.MemberPart.{MemberPart}
 use Rattle.reason_text.specs.declared.member_part.MemberPart.TheVariants.{Reads, Waits, Ends, Piece}
 use Rattle.reason_text.specs.declared.reason_line.ReasonLine.{ReasonLine}
-use Rattle.reason_text.specs.declared.reason_line.ReasonLine.TheVariants.{Skipped, Cycle, Before, Variable, Source, Last, TooFew, Counting, Waiting, Derivation}
+use Rattle.reason_text.specs.declared.reason_line.ReasonLine.TheVariants.{Skipped, Cycle, Before, Ended, Variable, Source, Last, TooFew, Counting, Waiting, Derivation}
 use Rattle.reason_text.specs.declared.source_piece.SourcePiece.{SourcePiece}
 use Rattle.reason_text.specs.declared.source_piece.SourcePiece.TheVariants.{Hidden, Later, Initial, Others, Apart}
 use Rattle.reason_notes.specs.declared.noted_line.NotedLine.{NotedLine}
@@ -155,6 +155,7 @@ waiting_text t parts = codes "one of these would have to come first" ++ members_
 abbrev pub reason_text : TraceValue → ReasonLine → List ℕ
 reason_text t (Cycle operations) = cycle_text t operations.items
 reason_text t (Before pair) = codes "by a before line"
+reason_text t (Ended pair) = codes "by their times"
 reason_text t (Source reader pieces) = read_text t reader ++ (pieces_text t pieces.items ++ rest_text pieces.items)
 reason_text t (Last location pieces) = end_text location.now (value_of t.final_values location.now) ++ (pieces_text t pieces.items ++ last_rest pieces.items)
 reason_text t (TooFew location value) = too_few_text t location.now value

@@ -2,7 +2,7 @@
 
 ghost use Rattle.std.specs.Prelude.{◌≡◌, [], map, IfOk};
 ghost use Rattle.order_clauses.specs.Numbered.{named};
-ghost use Rattle.order_reasons.specs.Reasons.{IsPairClause};
+ghost use Rattle.order_reasons.specs.Reasons.{IsPairClause, IsTimesClause};
 ghost use Rattle.order_reasons.specs.Sources.{IsSourceClause};
 ghost use Rattle.reason_clauses.specs.Made.{IsCycleOf, IsLastOf};
 ghost use Rattle.reason_clauses.specs.Tables.{HoldTables};
@@ -17,6 +17,7 @@ use reason_check::gathered_pieces::{gather, gather_late, gather_members, gather_
 use reason_check::trace_tables::TraceTables;
 use reason_clauses::cause::ReasonRefusal;
 use reason_clauses::cycle::cycle_clause;
+use reason_clauses::ended::ended_clause;
 use reason_clauses::last::last_clause;
 use reason_clauses::pair::pair_clause;
 use reason_clauses::source::source_clause;
@@ -67,6 +68,16 @@ fn pair_orders(
 {
     let mut orders = Vec::new(alloc);
     pair_clause(trace, before.place(pair), pair, &mut orders)?;
+    let kept = distinct_orders(alloc, orders)?;
+    Ok(LineOrders::Made(kept))
+}
+
+/// That of two operations of which one had ended before the other began.
+fn ended_orders(alloc: Global, trace: &Trace, pair: OrderPair) -> Result<LineOrders, ReasonRefusal>
+    ensures { IfOk result (AreMadeFor trace.now (λ clause. IsTimesClause trace.now clause (named trace.now pair.first) (named trace.now pair.second))) }
+{
+    let mut orders = Vec::new(alloc);
+    ended_clause(trace, pair, &mut orders)?;
     let kept = distinct_orders(alloc, orders)?;
     Ok(LineOrders::Made(kept))
 }
@@ -168,6 +179,7 @@ pub fn orders_of_line<'a>(
     match line {
         ReasonLine::Cycle(operations) => cycle_orders(alloc, trace, operations.as_slice()),
         ReasonLine::Before(pair) => pair_orders(alloc, trace, &tables.before, *pair),
+        ReasonLine::Ended(pair) => ended_orders(alloc, trace, *pair),
         ReasonLine::Source(reader, pieces) => {
             source_orders(alloc, trace, writers, *reader, pieces.as_slice())
         }

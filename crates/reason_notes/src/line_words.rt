@@ -160,6 +160,7 @@ pub fn push_reason(
     match line {
         ReasonLine::Cycle(operations) => push_cycle(text, trace, operations.as_slice())?,
         ReasonLine::Before(_pair) => text.extend_from_slice(b"by a before line")?,
+        ReasonLine::Ended(_pair) => text.extend_from_slice(b"by their times")?,
         ReasonLine::Source(reader, pieces) => {
             push_source(text, trace, *reader, pieces.as_slice())?
         }

@@ -76,13 +76,13 @@ HasPartsFault t words cause =
 
 -- the letters of lines
 abbrev pub kinds : List (List ℕ)
-kinds = codes "c" ∷ codes "b" ∷ codes "v" ∷ codes "s" ∷ codes "l" ∷ codes "n" ∷ codes "w" ∷ codes "N" ∷ codes "p" ∷ []
+kinds = codes "c" ∷ codes "b" ∷ codes "v" ∷ codes "s" ∷ codes "l" ∷ codes "n" ∷ codes "w" ∷ codes "N" ∷ codes "t" ∷ codes "p" ∷ []
 
 -- what is wrong with the words behind the letter of a line, by the letter
 pub data HasKindFault (t : TraceValue) (letter : List ℕ) (words : List (List ℕ)) (cause : ReasonCause) : Type 0 where
   NoKind : All (λ kind. letter ≢ kind) kinds → cause ≡ BadLine → HasKindFault t letter words cause
   InCycle : letter ≡ codes "c" → HasNamesFault t words cause → HasKindFault t letter words cause
-  InPair : (letter ≡ codes "b") ⊎ (letter ≡ codes "v") → HasPairFault t words cause → HasKindFault t letter words cause
+  InPair : (letter ≡ codes "b") ⊎ ((letter ≡ codes "v") ⊎ (letter ≡ codes "t")) → HasPairFault t words cause → HasKindFault t letter words cause
   NoReader : letter ≡ codes "s" → HasOperandsFault t 1 words cause → HasKindFault t letter words cause
   InSources : letter ≡ codes "s" → (reader : OperationPlace) (rest : List (List ℕ)) → words ≡ operation_word t reader ∷ rest → IsKnown t reader → HasPiecesFault t rest cause → HasKindFault t letter words cause
   NoLocation : letter ≡ codes "l" → words ≡ [] → cause ≡ BadLine → HasKindFault t letter words cause

@@ -28,6 +28,8 @@ pub enum ReasonLine<'a> {
     Cycle(Vec<OperationPlace>),
     /// `b U V`: the trace says that the first operation stands before the second.
     Before(OrderPair),
+    /// `t U V`: the first operation had ended before the second began.
+    Ended(OrderPair),
     /// `v U V`: the pair of operations has a variable.
     Variable(OrderPair),
     /// `s R ..`: the operation has a source, and the pieces say what bars each possible one.
@@ -125,6 +127,9 @@ fn read_kind<'a>(
     }
     if is_kind(kind, "N") {
         return read_too_few(rest);
+    }
+    if is_kind(kind, "t") {
+        return Ok(ReasonLine::Ended(read_pair(table, rest)?));
     }
     if is_kind(kind, "p") {
         want_end(rest)?;

@@ -14,13 +14,13 @@ use Rattle.restriction.specs.Left.{is_left, new_pair, names_of, left_process}
 
 -- what its location holds directly after an operation: what it leaves, or else what it reads
 abbrev pub value_behind : Op → ℕ
-value_behind (Read location value origin) = value
-value_behind (Write location value) = value
-value_behind (Update location read left origin) = left
+value_behind (Read location value origin span) = value
+value_behind (Write location value span) = value
+value_behind (Update location read left origin span) = left
 
--- a plain read of what its location holds directly after the earlier operation on it, if nothing is said of its source
+-- a plain read of what its location holds directly after the earlier operation on it, if nothing is said of its source and of its times
 abbrev pub is_repeat : Op → Op → Bool
-is_repeat earlier (Read location value Any) = bytes_eq (location_of earlier) location && (value_behind earlier == value)
+is_repeat earlier (Read location value Any None) = bytes_eq (location_of earlier) location && (value_behind earlier == value)
 is_repeat earlier op = false
 
 -- both operations exist, and the second repeats the first

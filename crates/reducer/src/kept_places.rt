@@ -66,7 +66,7 @@ fn value_behind(op: &Op) -> u64
 }
 
 /// Returns whether the second is a plain read of what its location holds directly after the first, and nothing is said of its
-/// source.
+/// source and of its times.
 fn is_repeat(earlier: &Op, op: &Op) -> bool
     ensures { result ≡ reduction.is_repeat earlier.now op.now }
 {
@@ -75,6 +75,7 @@ fn is_repeat(earlier: &Op, op: &Op) -> bool
             location,
             value,
             origin: Origin::Any,
+            span: None,
         } => {
             earlier.location().as_bytes() == location.as_bytes() && value_behind(earlier) == *value
         }

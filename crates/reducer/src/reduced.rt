@@ -71,8 +71,8 @@ impl Reduced {
 }
 
 /// Returns the trace without its repeated local reads. A plain read is dropped if the operation directly before it in its process
-/// leaves its value at its location or is a plain read of it there, if nothing is said of its source, and if no before pair and no
-/// origin names it.
+/// leaves its value at its location or is a plain read of it there, if nothing is said of its source and of its times, and if no
+/// before pair and no origin names it.
 pub fn reduce(alloc: Global, trace: &Trace) -> Result<Reduced, ReduceFault>
     ensures whole { IfOk result (λ reduced. reduced.whole ≡ trace.now) }
     ensures reduced { IfOk result IsReduced }

@@ -15,7 +15,7 @@ use schedule_text::schedule_fault::ScheduleCause;
 use trace_part::part_fault::PartCause;
 use trace_text::trace_fault::TraceCause;
 
-const TRACE: [TraceCause; 16] = [
+const TRACE: [TraceCause; 17] = [
     TraceCause::NotAscii,
     TraceCause::Header,
     TraceCause::UnknownLine,
@@ -32,6 +32,7 @@ const TRACE: [TraceCause; 16] = [
     TraceCause::NoSuchOp,
     TraceCause::BeforeItself,
     TraceCause::TooManyBefore,
+    TraceCause::EndsBeforeStart,
 ];
 
 const SCHEDULE: [ScheduleCause; 3] = [

@@ -170,7 +170,7 @@ impl Explained for ReasonCause {
                 "a cycle has an operation or more, and no step from an operation to itself; none waits for itself"
             }
             ReasonCause::NoPair => {
-                "no before line of the trace puts the first operation before the second"
+                "no before line of the trace puts the first operation before the second, or of a line `t` no times do"
             }
             ReasonCause::EnoughSources => "there are enough sources",
             ReasonCause::AlwaysTrue => "the clause of the line always holds",

@@ -15,7 +15,7 @@ impl Explained for TraceCause {
                 "a name is a letter or _, then letters, digits and _, at most 32 bytes"
             }
             TraceCause::BadNumber => {
-                "a value is decimal, 0 to 18446744073709551615, and a place 1 to 65535 (4294967295 in version 3), without a leading zero"
+                "a value or a time is decimal, 0 to 18446744073709551615, and a place 1 to 65535 (4294967295 in version 3), without a leading zero"
             }
             TraceCause::InitTwice => "a location has at most one `init` line",
             TraceCause::FinalTwice => "a location has at most one `final` line",
@@ -38,6 +38,7 @@ impl Explained for TraceCause {
             TraceCause::TooManyBefore => {
                 "a trace has at most 4096 `before` lines, in version 3 4194304"
             }
+            TraceCause::EndsBeforeStart => "an operation does not end before it starts",
         }
     }
 }

@@ -4,6 +4,7 @@ pub mod OrderedPairLemmas
 pub mod PlaceLemmas
 pub mod ReadLemmas
 pub mod RestrictLemmas
+pub mod SpanLemmas
 pub mod StandLemmas
 pub mod TraceLeftLemmas
 pub mod WriterLemmas

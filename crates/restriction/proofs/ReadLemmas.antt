@@ -22,6 +22,6 @@ module _ (t q : TraceValue) (stays : OpName → Option Op) (names left : List Op
 
   pub reads_left : (op : Op) → value_after q (location_of op) left ≡ value_after t (location_of op) names → last_writer q (location_of op) left ≡ option_map (new_name stays) (last_writer t (location_of op) names) →
       ReadsRight t names op → ReadsRight q left (new_op stays op)
-  reads_left (Read location value origin) same writer right = record { value = λ d f. same ∙ right.value d f; source = comes_from location origin writer right.source }
-  reads_left (Write location value) same writer right = record { value = λ d f. absurd (cc); source = tt }
-  reads_left (Update location read left_there origin) same writer right = record { value = λ d f. same ∙ right.value d f; source = comes_from location origin writer right.source }
+  reads_left (Read location value origin span) same writer right = record { value = λ d f. same ∙ right.value d f; source = comes_from location origin writer right.source }
+  reads_left (Write location value span) same writer right = record { value = λ d f. absurd (cc); source = tt }
+  reads_left (Update location read left_there origin span) same writer right = record { value = λ d f. same ∙ right.value d f; source = comes_from location origin writer right.source }

@@ -1,17 +1,20 @@
 -- A schedule restricted to what remains: its interleaving, and where its names stand.
-use Rattle.std.proofs.Common.{◌≡◌, ◌<◌, List, [], ◌∷◌, ◌++◌, map, Bool, true, false, cond, refl, ap, sym, ◌∙◌, arith, subst}
+use Rattle.std.proofs.Common.{◌≡◌, ◌<◌, List, [], ◌∷◌, ◌++◌, map, Bool, true, false, cond, refl, ap, sym, ◌∙◌, arith, inl, inr, subst}
 use Rattle.std.specs.Prelude.{Option, IsSome}
 use Rattle.std.specs.List.{Contains, filter}
 use Rattle.trace_semantics.specs.declared.operation.Op.{Op}
 use Rattle.trace_semantics.specs.declared.operation.OpName.{OpName}
 use Rattle.trace_semantics.specs.Interleaving.{StandsBefore, IsInterleaving}
+use Rattle.trace_semantics.specs.KnownOrder.{ended_before, IsKnownBefore}
 use Rattle.trace_semantics.specs.Trace.{TraceValue, IsTrace, operation_at}
 use Rattle.trace_semantics.proofs.ElementLemmas.{from_map, to_map, from_filter, to_filter}
+use Rattle.trace_semantics.proofs.KnownOrderLemmas.{both_timed}
 use Rattle.std.proofs.lemmas.List.{map-append}
 use Rattle.std.proofs.lemmas.List.Elements.{filter-append}
 use Rattle.restriction.specs.Left.{is_left, new_name, left_process, restricted}
-use Rattle.restriction.specs.Restriction.{ArePairsLeft}
+use Rattle.restriction.specs.Restriction.{ArePairsLeft, KeepsSpans}
 use Rattle.restriction.proofs.LeftLemmas.{IsOld, one_old, old_known, known_old, has_old, old_left, higher}
+use Rattle.restriction.proofs.SpanLemmas.{ended_left}
 use Rattle.restriction.proofs.StandLemmas.{stands_in, out_of_filter, into_filter, out_of_map, into_map}
 
 -- a place in the restriction is a place in the list
@@ -108,19 +111,28 @@ module _ (t q : TraceValue) (ok : IsTrace t) (stays : OpName → Option Op) (mad
       let b : (new_name stays at.second).place ≡ y.place = ap (λ (k : OpName). k.place) at.second_is in
       omega (arith, above, a, b)
 
-  left_pairs_stand : ArePairsLeft q stays names →
-      (x y : OpName) → Contains q.before (x, y) → StandsBefore (restricted stays names) x y
-  left_pairs_stand pairs x y c =
-      let at = pairs x y c in
-      let s = into_filter (is_left stays) names at.0 at.1 at.2 at.3 at.4 in
-      subst (λ z. StandsBefore (restricted stays names) z y) at.5 (subst (λ z. StandsBefore (restricted stays names) (new_name stays at.0) z) at.6 (into_map (new_name stays) (filter (is_left stays) names) at.0 at.1 s))
+  both_stand : (m n x y : OpName) → is_left stays m ≡ true → is_left stays n ≡ true → new_name stays m ≡ x → new_name stays n ≡ y → StandsBefore names m n → StandsBefore (restricted stays names) x y
+  both_stand m n x y first second first_is second_is s =
+      let left = into_map (new_name stays) (filter (is_left stays) names) m n (into_filter (is_left stays) names m n first second s) in
+      subst (λ z. StandsBefore (restricted stays names) z y) first_is (subst (λ z. StandsBefore (restricted stays names) (new_name stays m) z) second_is left)
 
-  pub restriction_interleaves : ArePairsLeft q stays names →
-      IsInterleaving q (restricted stays names)
-  restriction_interleaves pairs = record {
+  known_stands : ArePairsLeft q stays names → KeepsSpans t stays → (x y : OpName) → IsKnownBefore q x y → StandsBefore (restricted stays names) x y
+  known_stands pairs spans x y (inl c) = let at = pairs x y c in both_stand at.0 at.1 x y at.2 at.3 at.5 at.6 at.4
+  known_stands pairs spans x y (inr h) =
+      let both = both_timed q x y h in
+      let m = has_old t q ok stays made x both.0 in
+      let n = has_old t q ok stays made y both.1 in
+      let first = old_known t ok stays x m.0 m.1 in
+      let second = old_known t ok stays y n.0 n.1 in
+      let same = ended_left t q ok stays made spans m.0 n.0 first.known second.known first.left second.left in
+      let ended : ended_before t m.0 n.0 ≡ true = sym same ∙ (λ i. ended_before q (first.renamed i) (second.renamed i)) ∙ h in
+      both_stand m.0 n.0 x y first.left second.left first.renamed second.renamed (given.known_order m.0 n.0 (inr ended))
+
+  pub restriction_interleaves : ArePairsLeft q stays names → KeepsSpans t stays → IsInterleaving q (restricted stays names)
+  restriction_interleaves pairs spans = record {
     each = each_left;
     only = only_left;
     once = left_once;
     program_order = left_order;
-    before_pairs = left_pairs_stand pairs;
+    known_order = known_stands pairs spans;
   }

@@ -1,10 +1,12 @@
 -- What remains of a trace is a trace: its processes and their operations.
 use Rattle.std.proofs.Common.{◌≡◌, ◌≢◌, ◌≤◌, ◌^◌, ℕ, List, [], ◌∷◌, length, map, true, ◌&&◌, refl, ap, sym, ◌∙◌, arith, inl, inr, subst}
-use Rattle.std.specs.Prelude.{Option, Some, None, IsSome, nat_le, nat_lt}
+use Rattle.std.specs.Prelude.{Option, Some, None, IsSome, is_some, nat_le, nat_lt}
 use Rattle.std.specs.List.{All, AllPairs, Contains, filter_map, cons_option, flat_map, list_all, sum_by}
+use Rattle.std.specs.Option.{option_and_then}
 use Rattle.std.specs.Str.{bytes_eq}
 use Rattle.std.proofs.lemmas.Bool.{and_parts, and_from, le-leb, leb-true}
 use Rattle.std.proofs.lemmas.List.{length-map}
+use Rattle.std.proofs.lemmas.List.Elements.{All-contains}
 use Rattle.std.proofs.lemmas.List.Sums.{sum_by-cons}
 use Rattle.std.proofs.lemmas.Option.{option_and_then_some}
 use Rattle.text_lines.proofs.ListLemmas.{few_pass}
@@ -13,16 +15,20 @@ use Rattle.trace_semantics.specs.declared.operation.Op.TheVariants.{Read, Write,
 use Rattle.trace_semantics.specs.declared.operation.OpName.{OpName}
 use Rattle.trace_semantics.specs.declared.operation.Origin.{Origin}
 use Rattle.trace_semantics.specs.declared.operation.Origin.TheVariants.{Any, Initial, Operation}
+use Rattle.trace_semantics.specs.declared.operation.Span.{Span}
 use Rattle.trace_semantics.specs.declared.trace.Process.{Process}
+use Rattle.trace_semantics.specs.KnownOrder.{span_at}
 use Rattle.trace_semantics.specs.Names.{is_name}
-use Rattle.trace_semantics.specs.Operation.{location_of, origin_of}
-use Rattle.trace_semantics.specs.Trace.{TraceValue, IsTrace, IsKnownOrigin, at_place, process_named, operation_at, first_names, is_written_name, is_written_origin, is_written_op, is_written_process}
+use Rattle.trace_semantics.specs.Operation.{location_of, origin_of, span_of}
+use Rattle.trace_semantics.specs.Trace.{TraceValue, IsTrace, IsKnownOrigin, IsSpan, at_place, process_named, operation_at, first_names, is_written_name, is_written_origin, is_written_span, is_written_op, is_written_process}
 use Rattle.trace_semantics.proofs.ElementLemmas.{none_in, cases_in, head_in, tail_in, all_pass, pass_all, from_map, to_map, from_flat_map, to_flat_map, found}
 use Rattle.trace_semantics.proofs.NameLemmas.{some_value, known_named}
 use Rattle.restriction.specs.Left.{is_left, new_name, new_origin, new_op, names_of, left_process}
 use Rattle.restriction.proofs.LeftLemmas.{known_old, old_left, listed_name, higher}
 use Rattle.restriction.proofs.OrderedPairLemmas.{all_from, pairs_mapped}
+use Rattle.restriction.specs.Restriction.{KeepsSpans}
 use Rattle.restriction.proofs.PlaceLemmas.{length_names, in_list}
+use Rattle.restriction.proofs.SpanLemmas.{same_span}
 use Rattle.restriction.proofs.WriterLemmas.{same_location}
 
 pub from_filter_map : {A B : Type 0} (f : A → Option B) (xs : List A) (y : B) → Contains (filter_map f xs) y → (x : A) × Contains xs x × (f x ≡ Some y)
@@ -56,9 +62,9 @@ few_in_all stays (p ∷ ps) =
     omega (arith, few_in_all stays ps, few_left stays p, sum_by-cons (λ (q : Process). length q.operations) p ps, sum_by-cons (λ (q : Process). length q.operations) (left_process stays p) (map (left_process stays) ps))
 
 pub same_origin : (stays : OpName → Option Op) (op : Op) → origin_of (new_op stays op) ≡ new_origin stays (origin_of op)
-same_origin stays (Read location value origin) = refl
-same_origin stays (Write location value) = refl
-same_origin stays (Update location read left origin) = refl
+same_origin stays (Read location value origin span) = refl
+same_origin stays (Write location value span) = refl
+same_origin stays (Update location read left origin span) = refl
 
 -- an operation of the trace is one of a process
 pub record Listed (t : TraceValue) (op : Op) : Type 0 where
@@ -74,12 +80,24 @@ op_listed t n op e =
       there = in_list p.operations n.place op placed;
     })
 
+-- no operation ends before it starts
+pub fine_span : (t : TraceValue) → IsTrace t → (n : OpName) → IsSpan (span_at t n)
+fine_span t ok n = at (operation_at t n) refl
+  where
+    at : (o : Option Op) → operation_at t n ≡ o → IsSpan (option_and_then span_of o)
+    at None e = tt
+    at (Some op) e =
+        let there = op_listed t n op e in
+        All-contains (λ (o : Op). IsSpan (span_of o)) there.process.operations op
+        (All-contains (λ (p : Process). All (λ (o : Op). IsSpan (span_of o)) p.operations) t.processes there.process ok.spans there.listed) there.there
+
 -- what a function keeps that says what stays, so that what remains is a trace
 pub record StaysWell (t : TraceValue) (stays : OpName → Option Op) : Type 0 where
   pub known : (n : OpName) → is_left stays n ≡ true → IsSome (operation_at t n)
   pub location : (n : OpName) (op new : Op) → operation_at t n ≡ Some op → stays n ≡ Some new → location_of new ≡ location_of op
   pub written : (n : OpName) (op new : Op) → operation_at t n ≡ Some op → stays n ≡ Some new → is_written_op op ≡ true → is_written_op new ≡ true
   pub origin : (n : OpName) (new : Op) (w : OpName) → stays n ≡ Some new → origin_of new ≡ Operation w → is_left stays w ≡ true
+  pub spans : KeepsSpans t stays
 
 module _ (t q : TraceValue) (ok : IsTrace t) (stays : OpName → Option Op) (made : q.processes ≡ map (left_process stays) t.processes) (well : StaysWell t stays) where
   -- the operation of which an operation of q is what remains
@@ -118,6 +136,18 @@ module _ (t q : TraceValue) (ok : IsTrace t) (stays : OpName → Option Op) (mad
       subst (λ (o : Op). IsKnownOrigin q (origin_of o)) at.renamed (subst (λ o. IsKnownOrigin q o) (sym (same_origin stays at.old))
       (origin_new (origin_of at.old) (λ w e. well.origin at.name at.old w at.stays_it e)))))
 
+  -- what remains does not end before it starts
+  span_fine : (n : OpName) (old : Op) → stays n ≡ Some old → IsSpan (span_of (new_op stays old))
+  span_fine n old stays_it =
+      let same : span_of (new_op stays old) ≡ span_at t n = same_span stays old ∙ ap (option_and_then span_of) (sym stays_it) ∙ well.spans n (ap is_some stays_it) in
+      subst IsSpan (sym same) (fine_span t ok n)
+
+  pub spans_fine : All (λ (p : Process). All (λ (op : Op). IsSpan (span_of op)) p.operations) (map (left_process stays) t.processes)
+  spans_fine = all_from (λ (p : Process). All (λ (op : Op). IsSpan (span_of op)) p.operations) (map (left_process stays) t.processes) (λ r c.
+      all_from (λ (op : Op). IsSpan (span_of op)) r.operations (λ op d.
+      let at = left_from r c op d in
+      subst (λ (o : Op). IsSpan (span_of o)) at.renamed (span_fine at.name at.old at.stays_it)))
+
   -- names, values and places as they can be written
   fewer_places : (n : OpName) → (new_name stays n).place ≤ n.place
   fewer_places n = let few = few_pass (is_left stays) (first_names n.process n.place) in omega (arith, few, length_names n.process 1 n.place)
@@ -138,19 +168,25 @@ module _ (t q : TraceValue) (ok : IsTrace t) (stays : OpName → Option Op) (mad
   written_origin Initial k h = refl
   written_origin (Operation n) k h = written_name n (k n refl) h
 
+  written_end : (o : Origin) (span : Option Span) → ((w : OpName) → o ≡ Operation w → is_left stays w ≡ true) → (is_written_origin o && is_written_span span) ≡ true → (is_written_origin (new_origin stays o) && is_written_span span) ≡ true
+  written_end o span k h =
+      let parts = and_parts (is_written_origin o) (is_written_span span) h in
+      and_from (is_written_origin (new_origin stays o)) (is_written_span span) (written_origin o k parts.0) parts.1
+
   written_op : (op : Op) → ((w : OpName) → origin_of op ≡ Operation w → is_left stays w ≡ true) → is_written_op op ≡ true → is_written_op (new_op stays op) ≡ true
-  written_op (Read location value origin) k h =
-      let parts = and_parts (is_name location) (nat_lt value (2 ^ 64) && is_written_origin origin) h in
-      let rest = and_parts (nat_lt value (2 ^ 64)) (is_written_origin origin) parts.1 in
-      and_from (is_name location) (nat_lt value (2 ^ 64) && is_written_origin (new_origin stays origin)) parts.0 (and_from (nat_lt value (2 ^ 64)) (is_written_origin (new_origin stays origin)) rest.0 (written_origin origin k rest.1))
-  written_op (Write location value) k h = h
-  written_op (Update location read left origin) k h =
-      let parts = and_parts (is_name location) (nat_lt read (2 ^ 64) && (nat_lt left (2 ^ 64) && is_written_origin origin)) h in
-      let values = and_parts (nat_lt read (2 ^ 64)) (nat_lt left (2 ^ 64) && is_written_origin origin) parts.1 in
-      let rest = and_parts (nat_lt left (2 ^ 64)) (is_written_origin origin) values.1 in
-      and_from (is_name location) (nat_lt read (2 ^ 64) && (nat_lt left (2 ^ 64) && is_written_origin (new_origin stays origin))) parts.0
-      (and_from (nat_lt read (2 ^ 64)) (nat_lt left (2 ^ 64) && is_written_origin (new_origin stays origin)) values.0
-      (and_from (nat_lt left (2 ^ 64)) (is_written_origin (new_origin stays origin)) rest.0 (written_origin origin k rest.1)))
+  written_op (Read location value origin span) k h =
+      let parts = and_parts (is_name location) (nat_lt value (2 ^ 64) && (is_written_origin origin && is_written_span span)) h in
+      let rest = and_parts (nat_lt value (2 ^ 64)) (is_written_origin origin && is_written_span span) parts.1 in
+      and_from (is_name location) (nat_lt value (2 ^ 64) && (is_written_origin (new_origin stays origin) && is_written_span span)) parts.0
+      (and_from (nat_lt value (2 ^ 64)) (is_written_origin (new_origin stays origin) && is_written_span span) rest.0 (written_end origin span k rest.1))
+  written_op (Write location value span) k h = h
+  written_op (Update location read left origin span) k h =
+      let parts = and_parts (is_name location) (nat_lt read (2 ^ 64) && (nat_lt left (2 ^ 64) && (is_written_origin origin && is_written_span span))) h in
+      let values = and_parts (nat_lt read (2 ^ 64)) (nat_lt left (2 ^ 64) && (is_written_origin origin && is_written_span span)) parts.1 in
+      let rest = and_parts (nat_lt left (2 ^ 64)) (is_written_origin origin && is_written_span span) values.1 in
+      and_from (is_name location) (nat_lt read (2 ^ 64) && (nat_lt left (2 ^ 64) && (is_written_origin (new_origin stays origin) && is_written_span span))) parts.0
+      (and_from (nat_lt read (2 ^ 64)) (nat_lt left (2 ^ 64) && (is_written_origin (new_origin stays origin) && is_written_span span)) values.0
+      (and_from (nat_lt left (2 ^ 64)) (is_written_origin (new_origin stays origin) && is_written_span span) rest.0 (written_end origin span k rest.1)))
 
   written_in : (p : Process) → Contains t.processes p → (is_name p.name ≡ true) × (list_all is_written_op p.operations ≡ true)
   written_in p c = and_parts (is_name p.name) (list_all is_written_op p.operations) (all_pass is_written_process t.processes ok.written.processes p c)

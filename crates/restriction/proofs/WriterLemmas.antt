@@ -93,14 +93,14 @@ last_of t location (n ∷ names) =
 
 -- what the new name of an origin changes
 pub same_location : (stays : OpName → Option Op) (op : Op) → location_of (new_op stays op) ≡ location_of op
-same_location stays (Read location value origin) = refl
-same_location stays (Write location value) = refl
-same_location stays (Update location read left origin) = refl
+same_location stays (Read location value origin span) = refl
+same_location stays (Write location value span) = refl
+same_location stays (Update location read left origin span) = refl
 
 pub same_left : (stays : OpName → Option Op) (op : Op) → written_value (new_op stays op) ≡ written_value op
-same_left stays (Read location value origin) = refl
-same_left stays (Write location value) = refl
-same_left stays (Update location read left origin) = refl
+same_left stays (Read location value origin span) = refl
+same_left stays (Write location value span) = refl
+same_left stays (Update location read left origin span) = refl
 
 left_mapped : (stays : OpName → Option Op) (location : List ℕ) (o : Option Op) → option_and_then (left_by location) (option_map (new_op stays) o) ≡ option_and_then (left_by location) o
 left_mapped stays location None = refl

@@ -24,9 +24,9 @@ new_origin stays (Operation n) = Operation (new_name stays n)
 
 -- the operation with the new name of its origin
 abbrev pub new_op : (OpName → Option Op) → Op → Op
-new_op stays (Read location value origin) = Read location value (new_origin stays origin)
-new_op stays (Write location value) = Write location value
-new_op stays (Update location read left origin) = Update location read left (new_origin stays origin)
+new_op stays (Read location value origin span) = Read location value (new_origin stays origin) span
+new_op stays (Write location value span) = Write location value span
+new_op stays (Update location read left origin span) = Update location read left (new_origin stays origin) span
 
 abbrev pub new_pair : (OpName → Option Op) → OpName × OpName → OpName × OpName
 new_pair stays pair = (new_name stays pair.0, new_name stays pair.1)

@@ -12,7 +12,7 @@ ghost use Rattle.trace_semantics.specs.Trace.{TraceValue, IsTrace, operation_at}
 ghost use Rattle.trace_semantics.specs.ValueAfter.{value_after, last_writer};
 ghost use Rattle.restriction.specs.LastWriter.{IsLast};
 ghost use Rattle.restriction.specs.Left.{is_left, new_name, new_op, restricted};
-ghost use Rattle.restriction.specs.Restriction.{AreProcessesLeft, ArePairsLeft, StaysAlike};
+ghost use Rattle.restriction.specs.Restriction.{AreProcessesLeft, ArePairsLeft, KeepsSpans, StaysAlike};
 
 /// What remains of an operation stands in the new trace under its new name.
 pub fn left_has_new_name()
@@ -26,7 +26,7 @@ pub fn new_is_of_old()
 
 /// The restriction of an interleaving of a trace is one of what remains.
 pub fn restriction_is_interleaved()
-    ensures { (t q : TraceValue) (stays : OpName → Option Op) (names : List OpName) → IsTrace t → AreProcessesLeft t stays q → ArePairsLeft q stays names → IsInterleaving t names → IsInterleaving q (restricted stays names) }
+    ensures { (t q : TraceValue) (stays : OpName → Option Op) (names : List OpName) → IsTrace t → AreProcessesLeft t stays q → ArePairsLeft q stays names → KeepsSpans t stays → IsInterleaving t names → IsInterleaving q (restricted stays names) }
 {}
 
 /// If the last operation that writes a location remains, or none writes it, the location holds the same after the restriction, written

@@ -97,25 +97,34 @@ pub fn new_op<'a>(
             location,
             value,
             origin,
+            span,
         } => Ok(Op::Read {
             location: Name::copy_of(alloc, location.as_bytes())?,
             value: *value,
             origin: new_origin(alloc, trace, all, origin)?,
+            span: *span,
         }),
-        Op::Write { location, value } => Ok(Op::Write {
+        Op::Write {
+            location,
+            value,
+            span,
+        } => Ok(Op::Write {
             location: Name::copy_of(alloc, location.as_bytes())?,
             value: *value,
+            span: *span,
         }),
         Op::Update {
             location,
             read,
             left,
             origin,
+            span,
         } => Ok(Op::Update {
             location: Name::copy_of(alloc, location.as_bytes())?,
             read: *read,
             left: *left,
             origin: new_origin(alloc, trace, all, origin)?,
+            span: *span,
         }),
     }
 }

@@ -1,11 +1,11 @@
 -- Which operations come before one that the trace puts before them.
-use Rattle.std.proofs.Common.{◌≡◌, ◌<◌, ◌+◌, ℕ, List, [], ◌∷◌, length, take, get_or, map, Bool, true, false, cond, ◌&&◌, ◌||◌, not, refl, ap, sym, ◌∙◌, arith}
+use Rattle.std.proofs.Common.{◌≡◌, ◌<◌, ◌+◌, ℕ, List, [], ◌∷◌, ◌++◌, length, take, get_or, map, Bool, true, false, cond, ◌&&◌, ◌||◌, not, refl, ap, sym, ◌∙◌, arith}
 use Rattle.std.specs.Prelude.{Option, Some, None, is_some}
 use Rattle.std.specs.List.{slice_get, list_any, list_all, filter}
-use Rattle.std.proofs.lemmas.List.Folds.{list_any_more}
+use Rattle.std.proofs.lemmas.List.Folds.{list_any_more, list_all-append}
 use Rattle.schedule_judge.specs.declared.op_numbers.OpNumbers.{OpNumbers}
 use Rattle.trace_semantics.specs.declared.operation.OpName.{OpName}
-use Rattle.trace_semantics.specs.Judgement.{has_come, put_before}
+use Rattle.trace_semantics.specs.Judgement.{has_come, paired_before}
 use Rattle.trace_semantics.specs.Operation.{same_op}
 use Rattle.schedule_judge.specs.Tables.{number_at, is_broken, first_in, FindsEarlyIn}
 use Rattle.trace_semantics.specs.Trace.{TraceValue}
@@ -58,8 +58,8 @@ any_not_all q b first h each [] = refl
 any_not_all q b first h each (x ∷ xs) =
     any_step (q x) (b x) first h x (filter q xs) (list_any (λ x. q x && b x) xs) (each x) (any_not_all q b first h each xs)
 
--- an operation that comes first here comes before one that the trace puts before it, if and only if not all of those have come
-pub early_is : (t : TraceValue) (names : List OpName) (early : OpNumbers) (i : ℕ) (n : OpName) → FindsEarlyIn t.before names early → slice_get names i ≡ Some n → has_come (take i names) n ≡ false → is_some (number_at early n) ≡ not (list_all (has_come (take i names)) (put_before t n))
+-- an operation that comes first here comes before one that a pair puts before it, if and only if not all of those have come
+pub early_is : (t : TraceValue) (names : List OpName) (early : OpNumbers) (i : ℕ) (n : OpName) → FindsEarlyIn t.before names early → slice_get names i ≡ Some n → has_come (take i names) n ≡ false → is_some (number_at early n) ≡ not (list_all (has_come (take i names)) (paired_before t n))
 early_is t names early i n finds at fresh =
     let zeros : 0 + i ≡ i = omega arith in
     let here : first_in names n ≡ Some i = first_at (same_op n) names 0 i n at (same_op_refl n) fresh ∙ ap Some zeros in
@@ -67,3 +67,20 @@ early_is t names early i n finds at fresh =
   where
     each : (pair : OpName × OpName) → same_op pair.1 n ≡ true → first_in names n ≡ Some i → is_broken (first_in names pair.0) (first_in names pair.1) ≡ not (has_come (take i names) pair.0)
     each pair e here = ap (λ m. is_broken (first_in names pair.0) (first_in names m)) (same_name pair.1 n e) ∙ ap (is_broken (first_in names pair.0)) here ∙ ap not (below_first (same_op pair.0) names i)
+
+-- one that pairs put before it has not come, or else all of those have
+pub by_pairs : (h : OpName → Bool) (paired timed : List OpName) (early : Bool) → early ≡ not (list_all h paired) → early ≡ true → true ≡ not (list_all h (paired ++ timed))
+by_pairs h paired timed early is here =
+    ap not (sym (ap (λ b. b && list_all h timed) (failed (list_all h paired) (sym is ∙ here)))) ∙ ap not (sym (list_all-append h paired timed))
+  where
+    failed : (b : Bool) → not b ≡ true → b ≡ false
+    failed true e = absurd (cc)
+    failed false e = refl
+
+pub by_times : (h : OpName → Bool) (paired timed : List OpName) (early overtaken : Bool) → early ≡ not (list_all h paired) → early ≡ false → overtaken ≡ not (list_all h timed) → overtaken ≡ not (list_all h (paired ++ timed))
+by_times h paired timed early overtaken is here over =
+    over ∙ ap not (sym (ap (λ b. b && list_all h timed) (passed (list_all h paired) (sym is ∙ here)))) ∙ ap not (sym (list_all-append h paired timed))
+  where
+    passed : (b : Bool) → not b ≡ false → b ≡ true
+    passed true e = refl
+    passed false e = absurd (cc)

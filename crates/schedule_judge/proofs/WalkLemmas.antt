@@ -16,6 +16,7 @@ use Rattle.trace_semantics.specs.declared.operation.OpName.{OpName}
 use Rattle.schedule_judge.specs.declared.survey.Survey.{Survey}
 use Rattle.trace_semantics.specs.Judgement.{has_come, fault_at, fault_of_op, fault_of_named, fault_of_whole, IsJudgement}
 use Rattle.schedule_judge.specs.Come.{AreCountsOfCome, IsCountSet}
+use Rattle.schedule_judge.specs.Endings.{have_come_in_front, IsFirstMissing}
 use Rattle.schedule_judge.specs.Memory.{IsMemoryAfter, Runs}
 use Rattle.schedule_judge.specs.Survey.{IsSurvey}
 use Rattle.trace_semantics.specs.NameNumbers.{number_of}
@@ -24,6 +25,7 @@ use Rattle.trace_semantics.specs.Trace.{TraceValue, operation_at, first_names}
 use Rattle.trace_semantics.proofs.NameLemmas.{same_name}
 use Rattle.schedule_judge.specs.Walk.{IsWalk, IsInProgramOrder}
 use Rattle.schedule_judge.proofs.ComeLemmas.{counts_none, counts_more, either_true, in_order}
+use Rattle.schedule_judge.proofs.EndingLemmas.{front_more}
 use Rattle.schedule_judge.proofs.MemoryLemmas.{memory_run}
 use Rattle.schedule_judge.proofs.ProgramOrderLemmas.{first_have_come}
 
@@ -69,6 +71,11 @@ walk_more s counts more old new i n op survey walk at known right runs counted =
       come = subst (λ done. AreCountsOfCome s.processes more done) e (counts_more t s.processes counts more (take i names) n op survey.processes walk.come walk.in_program_order known right counted);
       memory = subst (λ done. IsMemoryAfter t names done new) e (memory_run t names (take i names) old new n op i walk.memory at known runs);
     }
+
+-- the operations in front of the first ending of one that has not come have come after one more name too
+pub ended_more : (s : Survey) (first i : ℕ) (n : OpName) → IsFirstMissing (take i s.names.now) s.endings.items first → slice_get s.names.now i ≡ Some n → have_come_in_front (take (i + 1) s.names.now) s.endings.items first ≡ true
+ended_more s first i n missing at =
+    subst (λ done. have_come_in_front done s.endings.items first ≡ true) (sym (one_more s.names.now i n at)) (front_more (take i s.names.now) s.endings.items first n (come_more (take i s.names.now) n) missing.come)
 
 parts_at : (names : List OpName) (i : ℕ) (n : OpName) → slice_get names i ≡ Some n → names ≡ take i names ++ n ∷ drop (suc i) names
 parts_at names i n at = sym (take-append-drop i names) ∙ ap (λ rest. take i names ++ rest) (drop-cons names i n (slice_get_within names i n at) ∙ ap (λ m. m ∷ drop (suc i) names) (get_or_from_slice_get names i n n at))

@@ -1,4 +1,5 @@
 pub mod Come
+pub mod Endings
 pub mod Memory
 pub mod Survey
 pub mod Tables

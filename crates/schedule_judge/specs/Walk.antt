@@ -6,6 +6,7 @@ use Rattle.trace_semantics.specs.declared.operation.OpName.{OpName}
 use Rattle.schedule_judge.specs.declared.survey.Survey.{Survey}
 use Rattle.trace_semantics.specs.Judgement.{fault_at, has_come}
 use Rattle.schedule_judge.specs.Come.{AreCountsOfCome}
+use Rattle.schedule_judge.specs.Endings.{have_come_in_front}
 use Rattle.schedule_judge.specs.Memory.{IsMemoryAfter}
 
 -- with an operation, the one before it in its process has come
@@ -18,3 +19,8 @@ pub record IsWalk (survey : Survey) (counts : List ℕ) (state : Memory) (count 
   pub in_program_order : IsInProgramOrder (take count survey.names.now)
   pub come : AreCountsOfCome survey.processes counts (take count survey.names.now)
   pub memory : IsMemoryAfter survey.trace.now survey.names.now (take count survey.names.now) state
+
+-- the same, and the operations in front of this entry of the endings are among those names
+pub record IsTimedWalk (survey : Survey) (counts : List ℕ) (state : Memory) (next count : ℕ) : Type 0 where
+  pub walk : IsWalk survey counts state count
+  pub ended : have_come_in_front (take count survey.names.now) survey.endings.items next ≡ true

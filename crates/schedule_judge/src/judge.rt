@@ -1,13 +1,14 @@
 //! The judge of a schedule.
 
-ghost use Rattle.std.specs.Prelude.{◌≡◌, List, ℕ, IfOk, take, length};
+ghost use Rattle.std.specs.Prelude.{◌≡◌, List, ℕ, IfOk, take, length, true};
 ghost use Rattle.std.specs.List.{slice_get, list_all, flat_map};
 ghost use Rattle.trace_semantics.specs.Judgement as judgement;
 ghost use Rattle.trace_semantics.specs.Judgement.{has_come, IsJudgement};
 ghost use Rattle.schedule_judge.specs.Come.{AreCountsOfCome};
+ghost use Rattle.schedule_judge.specs.Endings.{have_come_in_front, IsFirstMissing};
 ghost use Rattle.schedule_judge.specs.Survey.{IsSurvey};
 ghost use Rattle.trace_semantics.specs.NameNumbers.{number_of};
-ghost use Rattle.trace_semantics.specs.Trace.{first_names};
+ghost use Rattle.trace_semantics.specs.Trace.{first_names, operation_at};
 ghost use Rattle.schedule_judge.specs.Walk.{IsWalk, IsInProgramOrder};
 
 use crate::come::Come;
@@ -53,11 +54,31 @@ fn have_come<'a>(
     n == 0 || has_come(survey, come, row, process, n, count)
 }
 
-/// Gives what is wrong with an operation after the first `count` names. Its process is the one in this row.
+/// The first of the endings, from this one on, of an operation that is not among the first `count` names; past the last ending if
+/// there is none.
+fn first_missing<'a>(survey: &Survey<'a>, come: &Come, count: usize, from: usize) -> usize
+    requires come { AreCountsOfCome survey.now.processes come.now.counts.items (take count survey.now.names.now) }
+    requires front { have_come_in_front (take count survey.now.names.now) survey.now.endings.items from ≡ true }
+    ensures { IsFirstMissing (take count survey.now.names.now) survey.now.endings.items result }
+{
+    let endings = survey.endings.as_slice();
+    for k in from..endings.len() {
+        let ending = endings[k];
+        let row = survey.row_of(ending.process);
+        if !has_come(survey, come, row, ending.process, ending.place, count) {
+            return k;
+        }
+    }
+    endings.len()
+}
+
+/// Gives what is wrong with an operation after the first `count` names. Its process is the one in this row, and the first ending of
+/// an operation that has not come is at `missing`.
 fn fault_of_op<'a>(
     survey: &Survey<'a>,
     come: &Come,
     memory: &Memory<'a>,
+    missing: usize,
     count: usize,
     row: Option<u64>,
     name: &'a OpName,
@@ -65,8 +86,10 @@ fn fault_of_op<'a>(
 ) -> Option<IllegalCause>
     requires survey { IsSurvey survey.now }
     requires walk { IsWalk survey.now come.now.counts.items memory.now count }
+    requires missing { IsFirstMissing (take count survey.now.names.now) survey.now.endings.items missing }
     requires row { row ≡ number_of survey.now.processes name.now.process }
     requires name { slice_get survey.now.names.now count ≡ Some name.now }
+    requires op { operation_at survey.now.trace.now name.now ≡ Some op.now }
     ensures { result ≡ judgement.fault_of_op survey.now.trace.now (take count survey.now.names.now) name.now op.now }
 {
     let process = name.process.as_bytes();
@@ -77,7 +100,7 @@ fn fault_of_op<'a>(
         Some(IllegalCause::OutOfProgramOrder)
     } else if !memory.reads_right(op) {
         Some(IllegalCause::WrongRead)
-    } else if survey.is_early(name) {
+    } else if survey.is_early(missing, name, op) {
         Some(IllegalCause::BeforeBroken)
     } else if !memory.has_right_source(survey.names, op) {
         Some(IllegalCause::WrongSource)
@@ -137,17 +160,20 @@ pub fn judge(alloc: Global, trace: &Trace, schedule: &Schedule) -> Result<Judgem
     let survey = Survey::new(alloc, trace, names)?;
     let mut memory = Memory::new(alloc, trace.initial())?;
     let mut come = Come::new(alloc);
+    let mut next = 0usize;
     for i in 0..names.len() {
         let name = &names[i];
         let row = survey.row_of(name.process.as_bytes());
         let Some(op) = survey.operation_at(row, name) else {
             return Ok(Judgement::Illegal(IllegalCause::UnknownOp, i + 1));
         };
-        if let Some(cause) = fault_of_op(&survey, &come, &memory, i, row, name, op) {
+        let missing = first_missing(&survey, &come, i, next);
+        if let Some(cause) = fault_of_op(&survey, &come, &memory, missing, i, row, name, op) {
             return Ok(Judgement::Illegal(cause, i + 1));
         }
         memory.run(op, i)?;
         come.take(row, name.place as usize)?;
+        next = missing;
     }
     match fault_of_whole(&survey, &come, &memory) {
         None => Ok(Judgement::Legal),

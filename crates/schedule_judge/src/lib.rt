@@ -3,6 +3,7 @@
 #![tactic(auto)]
 
 mod come;
+mod ending;
 pub mod judge;
 mod memory;
 mod op_numbers;

@@ -1,15 +1,18 @@
 //! What the judge looks up: operations by name, and which come before their time.
 
-ghost use Rattle.std.specs.Prelude.{◌≡◌, ℕ, IfOk, take, not, false};
+ghost use Rattle.std.specs.Prelude.{◌≡◌, ℕ, List, IfOk, take, not, false};
 ghost use Rattle.std.specs.List.{slice_get, list_all};
 ghost use Rattle.std.specs.Option.{option_copied, option_and_then};
 ghost use Rattle.trace_semantics.specs.Judgement as judgement;
+ghost use Rattle.schedule_judge.specs.Endings.{IsFirstMissing};
 ghost use Rattle.schedule_judge.specs.Survey.{IsSurvey};
 ghost use Rattle.schedule_judge.specs.Tables.{number_at, FindsProcesses, FindsFirst, FindsEarly, FindsEarlyIn};
 ghost use Rattle.schedule_judge.specs.Tables as tables;
+ghost use Rattle.trace_semantics.specs.declared.operation.OpName.{OpName};
 ghost use Rattle.trace_semantics.specs.NameNumbers.{number_of};
 ghost use Rattle.trace_semantics.specs.Trace as trace_value;
 
+use crate::ending::{Ending, endings_of, is_overtaken};
 use crate::op_numbers::OpNumbers;
 use std::alloc::{AllocError, Global};
 use trace_semantics::name_table::NameTable;
@@ -22,7 +25,10 @@ pub struct Survey<'a> {
     pub trace: &'a Trace,
     pub names: &'a [OpName],
     pub processes: NameTable<'a>,
+    /// The operations that come before one that a pair puts before them.
     pub early: OpNumbers<'a>,
+    /// The operations that have spans, those that ended earlier first.
+    pub endings: Vec<Ending<'a>>,
 }
 
 /// The place of each process, by its name.
@@ -151,14 +157,18 @@ impl<'a> Survey<'a> {
         ensures names { IfOk result (λ survey. survey.names.now ≡ names.now) }
         ensures tables { IfOk result IsSurvey }
     {
+        trace.recall_invariant();
         let processes = places_of_processes(alloc, trace.processes())?;
         let pairs = trace.before();
         let early = early_in(alloc, pairs, names)?;
+        let timed = trace.processes();
+        let endings = endings_of(alloc, timed)?;
         Ok(Survey {
             trace,
             names,
             processes,
             early,
+            endings,
         })
     }
 
@@ -178,13 +188,37 @@ impl<'a> Survey<'a> {
         op_of(process_at(self.trace.processes(), row), name.place as usize)
     }
 
-    /// Returns whether the operation, where it comes first, comes before one that the trace puts before it.
-    pub fn is_early(&self, name: &'a OpName) -> bool
+    /// Returns whether the operation, where it comes first, comes before one that a pair puts before it.
+    fn is_early_by_pairs(&self, name: &'a OpName) -> bool
         requires { IsSurvey self.now }
         ensures { (count : ℕ) → slice_get self.now.names.now count ≡ Some name.now
             → judgement.has_come (take count self.now.names.now) name.now ≡ false
-            → result ≡ not (list_all (judgement.has_come (take count self.now.names.now)) (judgement.put_before self.now.trace.now name.now)) }
+            → result ≡ not (list_all (judgement.has_come (take count self.now.names.now)) (judgement.paired_before self.now.trace.now name.now)) }
     {
         self.early.of(name).is_some()
+    }
+
+    /// Returns whether the operation comes before one that had ended when it started. The first ending of an operation that has
+    /// not come is at `next`.
+    fn is_early_by_times(&self, next: usize, op: &Op) -> bool
+        requires { IsSurvey self.now }
+        ensures { (done : List OpName) (n : OpName) → IsFirstMissing done self.now.endings.items next
+            → trace_value.operation_at self.now.trace.now n ≡ Some op.now
+            → result ≡ not (list_all (judgement.has_come done) (judgement.timed_before self.now.trace.now n)) }
+    {
+        is_overtaken(self.endings.as_slice(), next, op.span())
+    }
+
+    /// Returns whether the operation, where it comes first, comes before one that the trace puts before it. The first ending of an
+    /// operation that has not come is at `next`.
+    pub fn is_early(&self, next: usize, name: &'a OpName, op: &Op) -> bool
+        requires { IsSurvey self.now }
+        ensures { (count : ℕ) → slice_get self.now.names.now count ≡ Some name.now
+            → trace_value.operation_at self.now.trace.now name.now ≡ Some op.now
+            → IsFirstMissing (take count self.now.names.now) self.now.endings.items next
+            → judgement.has_come (take count self.now.names.now) name.now ≡ false
+            → result ≡ not (list_all (judgement.has_come (take count self.now.names.now)) (judgement.put_before self.now.trace.now name.now)) }
+    {
+        self.is_early_by_pairs(name) || self.is_early_by_times(next, op)
     }
 }

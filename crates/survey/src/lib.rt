@@ -15,5 +15,6 @@ mod part;
 mod purse;
 mod reading;
 mod shrinking;
+mod time_pairs;
 
 pub use finding::BySaturation;

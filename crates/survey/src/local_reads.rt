@@ -98,6 +98,7 @@ impl ReducedLog {
             self.log.add_pair(NumberedPair {
                 first: at(renamed, pair.first, pair.first),
                 second: at(renamed, pair.second, pair.second),
+                is_timed: pair.is_timed,
             })?;
         }
         Ok(())

@@ -312,7 +312,11 @@ impl LogPart {
             if place != 0 && log.operation(old).process != process {
                 let first = at(nearest, log.number(process, place), NOBODY);
                 if first != NOBODY && (last == NOBODY || first > last) {
-                    self.log.add_pair(NumberedPair { first, second })?;
+                    self.log.add_pair(NumberedPair {
+                        first,
+                        second,
+                        is_timed: false,
+                    })?;
                     last = first;
                 }
             }

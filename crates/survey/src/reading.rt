@@ -1,5 +1,6 @@
 //! A trace as a log of numbers, and names by number.
 
+use crate::time_pairs::add_times;
 use numbered_log::{NOBODY, NumberedLog, NumberedOrigin, NumberedPair, Operation};
 use order_certificate::{LogNames, NamedPlace};
 use order_sets::tables::{at, size};
@@ -150,6 +151,7 @@ fn numbered(
 ) -> Result<NumberedLog, AllocError> {
     let mut log = NumberedLog::new(alloc, locations.count)?;
     fill(&mut log, trace, locations, starts)?;
+    add_times(alloc, trace, &mut log)?;
     Ok(log)
 }
 
@@ -176,7 +178,11 @@ fn fill(
     for pair in trace.before() {
         let first = starts.number(&pair.0);
         let second = starts.number(&pair.1);
-        log.add_pair(NumberedPair { first, second })?;
+        log.add_pair(NumberedPair {
+            first,
+            second,
+            is_timed: false,
+        })?;
     }
     Ok(())
 }

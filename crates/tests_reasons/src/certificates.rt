@@ -33,6 +33,10 @@ const THIN_AIR: &str = "vsc 1\ninit z 0\nfinal z 1\nproc P\nR x 1\nW y 1\nproc Q
 const UNENDED_TURN: &str =
     "vsc 1\ninit l 0\ninit x 0\nproc P\nU l 0 1\nR x 1\nW l 0\nproc Q\nU l 0 1\nW x 1\n";
 
+/// The read of the initial value begins after a write of another one had ended; the second read had ended before both, and the third has no times.
+const LATE_START: &str =
+    "vsc 3\ninit x 0\nproc P\nW x 1 at 10 20\nproc Q\nR x 0 at 21 30\nR x 1 at 5 9\nR x 1\nW y 1 at 40 41\n";
+
 /// Asserts what the check of the certificate, without its header, answers for the trace.
 fn assert_checked(
     rt: &impl Abort,
@@ -48,7 +52,7 @@ fn assert_checked(
 }
 
 /// Certificates of how many clauses are accepted.
-const ACCEPTED: [(&str, &str, usize); 11] = [
+const ACCEPTED: [(&str, &str, usize); 13] = [
     (
         STALE_DATA,
         "vsc-reasons 1\nc P.1 P.2 Q.1 Q.2\ns Q.1\ns Q.2 i P.1\np\n4 0 2 3 1 0\n",
@@ -96,6 +100,12 @@ const ACCEPTED: [(&str, &str, usize); 11] = [
         "vsc-reasons 1\nw m P.1 Q.2 r Q.1\ns P.1\np\n3 0 1 2 0\n",
         2,
     ),
+    (
+        LATE_START,
+        "vsc-reasons 1\nt Q.2 P.1\nt P.1 Q.1\ns Q.1 i P.1\np\n4 0 2 3 0\n",
+        3,
+    ),
+    (LATE_START, "vsc-reasons 1\nt Q.2 Q.1\n", 1),
 ];
 
 #[test]
@@ -166,6 +176,18 @@ const REFUSED_COUNTS: [(&str, ReasonCause); 14] = [
     ("n r P.1 i P.3", ReasonCause::AlwaysTrue),
 ];
 
+/// Lines of times, and why they are refused.
+const REFUSED_TIMES: [(&str, ReasonCause); 8] = [
+    ("t P.1", ReasonCause::BadLine),
+    ("t P.1 Q.1 Q.2", ReasonCause::BadLine),
+    ("t P.1 Q.5", ReasonCause::NoOperation),
+    ("t Q.1 P.1", ReasonCause::NoPair),
+    ("t P.1 Q.3", ReasonCause::NoPair),
+    ("t Q.3 P.1", ReasonCause::NoPair),
+    ("b P.1 Q.1", ReasonCause::NoPair),
+    ("t Q.1 Q.4", ReasonCause::AlwaysTrue),
+];
+
 /// Asserts that the line, which follows the header, is refused so.
 fn assert_line_refused(
     rt: &impl Abort,
@@ -195,6 +217,14 @@ fn counts_are_refused(rt: HostRuntime) {
     for k in 0..REFUSED_COUNTS.len() {
         let (line, cause) = REFUSED_COUNTS[k];
         assert_line_refused(&rt, rt.alloc(), UNENDED_TURN, line, cause, k);
+    }
+}
+
+#[test]
+fn times_are_refused(rt: HostRuntime) {
+    for k in 0..REFUSED_TIMES.len() {
+        let (line, cause) = REFUSED_TIMES[k];
+        assert_line_refused(&rt, rt.alloc(), LATE_START, line, cause, k);
     }
 }
 

@@ -25,7 +25,7 @@ fn assert_noted(
 }
 
 /// Traces, certificates, and what is noted.
-const NOTED: [(&str, &str, &str); 9] = [
+const NOTED: [(&str, &str, &str); 10] = [
     (
         "vsc 1\ninit data 0\ninit flag 0\nproc P\nW data 1\nW flag 1\nproc Q\nR flag 1\nR data 0\n",
         "vsc-reasons 1\n# the flag\ns Q.1\ns Q.2 i P.1\nc P.1 P.2 Q.1 Q.2\np\n4 0 1 2 3 0\n",
@@ -70,6 +70,11 @@ const NOTED: [(&str, &str, &str); 9] = [
         "vsc 2\nproc P\nW x 1\nproc Q\nW x 1\nproc S\nW x 2\nproc R\nR x 1\nbefore P 1 S 1\nbefore Q 1 S 1\nbefore S 1 R 1\n",
         "vsc-reasons 1\ns R.1 H S.1\ns R.1 L S.1\nb P.1 S.1\nb Q.1 S.1\nb S.1 R.1\np\n6 0 3 4 5 1 0\n",
         "note: R.1 reads 1 at x, from any other, which S.1 would hide: S.1 before P.1, or R.1 before S.1, or S.1 before Q.1\nnote: R.1 reads 1 at x, from any other, and S.1 stands after that or before it: P.1 before S.1, or S.1 before R.1, or Q.1 before S.1\nnote: by a before line: P.1 before S.1\nnote: by a before line: Q.1 before S.1\nnote: by a before line: S.1 before R.1\n",
+    ),
+    (
+        "vsc 3\ninit x 0\nproc P\nW x 1 at 10 20\nproc Q\nR x 0 at 21 30\n",
+        "vsc-reasons 1\nt P.1 Q.1\ns Q.1 i P.1\np\n3 0 1 2 0\n",
+        "note: by their times: P.1 before Q.1\nnote: Q.1 reads 0 at x, from the initial value, which P.1 would hide, or from an operation before it: Q.1 before P.1\n",
     ),
 ];
 

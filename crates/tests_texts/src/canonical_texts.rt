@@ -8,7 +8,7 @@ use std::alloc::{AllocError, Global};
 use std::process::Abort;
 use trace_semantics::limits::Limits;
 use trace_semantics::name::Name;
-use trace_semantics::operation::{Op, OpName, Origin};
+use trace_semantics::operation::{Op, OpName, Origin, Span};
 use trace_semantics::trace::{Operations, Process, Trace};
 use trace_text::trace_reader::read_trace;
 use trace_text::trace_writer::write_trace;
@@ -160,11 +160,17 @@ fn push_op(rt: &impl Abort, ops: &mut Vec<Op>, op: Op)
 fn trace_of_three(rt: &impl Abort, alloc: Global) -> Result<Trace, AllocError> {
     let mut ops = Vec::new(alloc);
     let location = name_of(rt, alloc, b"x");
-    push_op(rt, &mut ops, Op::Write { location, value: 1 });
+    let write = Op::Write {
+        location,
+        value: 1,
+        span: None,
+    };
+    push_op(rt, &mut ops, write);
     let read = Op::Read {
         location: name_of(rt, alloc, b"y"),
         value: 18446744073709551615,
         origin: Origin::Initial,
+        span: None,
     };
     push_op(rt, &mut ops, read);
     let first = OpName {
@@ -176,6 +182,7 @@ fn trace_of_three(rt: &impl Abort, alloc: Global) -> Result<Trace, AllocError> {
         read: 1,
         left: 20,
         origin: Origin::Operation(first),
+        span: None,
     };
     push_op(rt, &mut ops, update);
     let mut processes = Vec::new(alloc);
@@ -184,6 +191,41 @@ fn trace_of_three(rt: &impl Abort, alloc: Global) -> Result<Trace, AllocError> {
         operations: Operations::new(ops),
     })?;
     Ok(Trace::new(processes, Vec::new(alloc), Vec::new(alloc), Vec::new(alloc)))
+}
+
+/// A trace of one process that writes and reads a location, each at a time.
+fn trace_with_times(rt: &impl Abort, alloc: Global) -> Result<Trace, AllocError> {
+    let mut ops = Vec::new(alloc);
+    let write = Op::Write {
+        location: name_of(rt, alloc, b"x"),
+        value: 1,
+        span: Some(Span { start: 0, end: 5 }),
+    };
+    push_op(rt, &mut ops, write);
+    let read = Op::Read {
+        location: name_of(rt, alloc, b"x"),
+        value: 1,
+        origin: Origin::Any,
+        span: Some(Span {
+            start: 5,
+            end: 18446744073709551615,
+        }),
+    };
+    push_op(rt, &mut ops, read);
+    let mut processes = Vec::new(alloc);
+    processes.push(Process {
+        name: name_of(rt, alloc, b"P0"),
+        operations: Operations::new(ops),
+    })?;
+    Ok(Trace::new(processes, Vec::new(alloc), Vec::new(alloc), Vec::new(alloc)))
+}
+
+#[test]
+fn writes_times(rt: HostRuntime) {
+    let trace = ample(&rt, trace_with_times(&rt, rt.alloc()));
+    let text = ample(&rt, write_trace(rt.alloc(), &trace));
+    let expected = "vsc 3\nproc P0\nW x 1 at 0 5\nR x 1 at 5 18446744073709551615\n";
+    assert!(rt; text.as_slice() == expected.as_bytes());
 }
 
 #[test]

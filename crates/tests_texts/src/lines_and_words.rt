@@ -78,8 +78,10 @@ fn cuts_words(rt: HostRuntime) {
     assert_first(&rt, LINE, &[b"W", b"x", b"1"]);
     assert_first(
         &rt,
-        b"a b c d e f g h i",
-        &[b"a", b"b", b"c", b"d", b"e", b"f", b"g", b"h"],
+        b"a b c d e f g h i j k l",
+        &[
+            b"a", b"b", b"c", b"d", b"e", b"f", b"g", b"h", b"i", b"j", b"k",
+        ],
     );
     assert!(rt; is_blank_byte(b'\r') && !is_blank_byte(b'\n') && !is_blank_byte(11));
 }

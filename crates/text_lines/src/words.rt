@@ -57,9 +57,9 @@ pub fn cut_word(line: &[u8]) -> Option<(&[u8], &[u8])>
     }
 }
 
-/// The first words of the line, at most eight of them, which is more than a line of a trace has.
-pub fn first_words(line: &[u8]) -> InlineList<&[u8], 8>
-    ensures { map (λ word. word.now) result ≡ take 8 (words_of line.now) }
+/// The first words of the line, at most eleven of them, which is more than a line of a trace has.
+pub fn first_words(line: &[u8]) -> InlineList<&[u8], 11>
+    ensures { map (λ word. word.now) result ≡ take 11 (words_of line.now) }
 {
     let mut words = InlineList::empty();
     let mut rest = line;

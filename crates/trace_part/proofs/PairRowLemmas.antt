@@ -12,17 +12,19 @@ use Rattle.std.proofs.lemmas.List.Elements.{Contains-get_or, filter-append}
 use Rattle.trace_semantics.specs.declared.operation.Op.{Op}
 use Rattle.trace_semantics.specs.declared.operation.OpName.{OpName}
 use Rattle.trace_semantics.specs.declared.trace.Process.{Process}
+use Rattle.trace_semantics.specs.KnownOrder.{ends_before, ended_before}
 use Rattle.trace_semantics.specs.PairOrder.{order_of}
 use Rattle.trace_semantics.specs.Trace.{TraceValue, IsTrace, operation_at, operation_names, first_names}
 use Rattle.trace_semantics.proofs.ElementLemmas.{head_in, tail_in, from_filter, from_map, from_flat_map}
 use Rattle.trace_semantics.proofs.NameLemmas.{from_first, known_named}
 use Rattle.trace_part.specs.declared.left_names.LeftName.{LeftName}
-use Rattle.trace_part.specs.Told.{groups_of, told_pairs}
+use Rattle.trace_part.specs.Told.{groups_of, is_untimed, told_pairs}
 use Rattle.restriction.specs.Left.{is_left, new_name, new_pair, names_of, names_from}
 use Rattle.restriction.specs.PlacesLeft.{ArePlacesLeft}
-use Rattle.part_law.specs.Part.{left_names, left_pairs, is_nearer, is_told}
+use Rattle.part_law.specs.Part.{left_names, left_pairs, is_nearer, is_nearest, is_told}
 use Rattle.forced_order.specs.Rows.{OrderValue, stands_by, numbered, ordered_by}
 use Rattle.trace_part.specs.Rows.{LeftValue, left_value, Leaves, left_row, row_is_nearer, row_is_told, told_rows, row_at_place}
+use Rattle.forced_order.proofs.TimeLemmas.{span_numbered}
 use Rattle.restriction.proofs.CountLemmas.{counted}
 use Rattle.restriction.proofs.LeftLemmas.{process_of}
 use Rattle.restriction.proofs.OrderedPairLemmas.{all_from, pairs_nil, pairs_mapped}
@@ -46,6 +48,15 @@ filter_mapped q p g (x ∷ xs) h =
   where
     at : (b : Bool) → filter q (map g xs) ≡ map g (filter p xs) → cond b (g x ∷ filter q (map g xs)) (filter q (map g xs)) ≡ map g (cond b (x ∷ filter p xs) (filter p xs))
     at true more = ap (λ l. g x ∷ l) more
+    at false more = more
+
+filter_twice : {X : Type 0} (q p : X → Bool) (xs : List X) → filter q (filter p xs) ≡ filter (λ x. p x && q x) xs
+filter_twice q p [] = refl
+filter_twice q p (x ∷ xs) = at (p x) (filter_twice q p xs)
+  where
+    at : (b : Bool) → filter q (filter p xs) ≡ filter (λ y. p y && q y) xs →
+        filter q (cond b (x ∷ filter p xs) (filter p xs)) ≡ cond (b && q x) (x ∷ filter (λ y. p y && q y) xs) (filter (λ y. p y && q y) xs)
+    at true more = ap (λ l. cond (q x) (x ∷ l) l) more
     at false more = more
 
 any_mapped : {X Y : Type 0} (q : Y → Bool) (p : X → Bool) (g : X → Y) (xs : List X) → ((x : X) → Contains xs x → q (g x) ≡ p x) → list_any q (map g xs) ≡ list_any p xs
@@ -98,7 +109,7 @@ module _ (t : TraceValue) (ok : IsTrace t) (order : OrderValue) (stays : OpName 
   known_left : (n : OpName) → Contains (left_names t stays) n → IsSome (operation_at t n)
   known_left n c = given.known n (from_filter (is_left stays) (operation_names t) n c).1
 
-  told_alike : (m n : OpName) → Contains (left_names t stays) m → Contains (left_names t stays) n → row_is_told order (map (left_row t stays) (left_names t stays)) (left_row t stays m) (left_row t stays n) ≡ is_told t (ordered_by t order) stays (m, n)
+  told_alike : (m n : OpName) → Contains (left_names t stays) m → Contains (left_names t stays) n → row_is_told order (map (left_row t stays) (left_names t stays)) (left_row t stays m) (left_row t stays n) ≡ is_nearest t (ordered_by t order) stays (m, n)
   told_alike m n c d =
       λ i. stands_by order (numbered t.processes m) (numbered t.processes n) && (not (same_number t m n (known_left m c) (known_left n d) i)
       && not (any_mapped (row_is_nearer order (left_row t stays m) (left_row t stays n)) (is_nearer (ordered_by t order) (m, n)) (left_row t stays) (left_names t stays) (λ x e j.
@@ -123,11 +134,11 @@ module _ (t : TraceValue) (ok : IsTrace t) (order : OrderValue) (stays : OpName 
       let second = from_map (λ (n : OpName). (first.0, n)) (left_names t stays) pair first.2 in
       (subst (λ n. Contains (left_names t stays) n) (ap (λ (p : OpName × OpName). p.0) second.2) first.1, subst (λ n. Contains (left_names t stays) n) (ap (λ (p : OpName × OpName). p.1) second.2) second.1)
 
-  pub told_are : told_rows order (map (left_row t stays) (left_names t stays)) ≡ map pair_row (filter (is_told t (ordered_by t order) stays) (left_pairs t stays))
+  pub told_are : told_rows order (map (left_row t stays) (left_names t stays)) ≡ map pair_row (filter (is_nearest t (ordered_by t order) stays) (left_pairs t stays))
   told_are =
       let rows : List LeftName = map (left_row t stays) (left_names t stays) in
       ap (filter (λ (pair : LeftName × LeftName). row_is_told order (map (left_row t stays) (left_names t stays)) pair.0 pair.1)) (all_pairs (left_names t stays) (left_names t stays))
-      ∙ filter_mapped (λ (pair : LeftName × LeftName). row_is_told order (map (left_row t stays) (left_names t stays)) pair.0 pair.1) (is_told t (ordered_by t order) stays) pair_row (left_pairs t stays) (λ pair c.
+      ∙ filter_mapped (λ (pair : LeftName × LeftName). row_is_told order (map (left_row t stays) (left_names t stays)) pair.0 pair.1) (is_nearest t (ordered_by t order) stays) pair_row (left_pairs t stays) (λ pair c.
       let both = in_pairs pair c in told_alike pair.0 pair.1 both.0 both.1)
 
   -- the groups make up all names that remain, each of one process and in program order
@@ -157,11 +168,21 @@ module _ (t : TraceValue) (ok : IsTrace t) (order : OrderValue) (stays : OpName 
   pub groups_are : AreGroupsFrom 0 (groups_of t stays)
   groups_are = groups_from 0 t.processes (λ k d l. (let e : k ≡ 0 + k = omega arith in order_is t.processes ok.distinct k d l ∙ e))
 
-  pub told_by_groups : told_pairs order (groups_of t stays) ≡ map pair_row (filter (is_told t (ordered_by t order) stays) (left_pairs t stays))
-  told_by_groups =
+  nearest_by_groups : told_pairs order (groups_of t stays) ≡ map pair_row (filter (is_nearest t (ordered_by t order) stays) (left_pairs t stays))
+  nearest_by_groups =
       told_are_rows order (groups_of t stays) 0 groups_are
       ∙ ap (told_rows order) (joined_are t.processes)
       ∙ told_are
+
+  -- times say of rows what they say of names
+  untimed_alike : (pair : OpName × OpName) → is_untimed t.processes (pair_row pair) ≡ not (ended_before t pair.0 pair.1)
+  untimed_alike pair i = not (ends_before (sym (span_numbered t pair.0) i) (sym (span_numbered t pair.1) i))
+
+  pub told_by_groups : filter (is_untimed t.processes) (told_pairs order (groups_of t stays)) ≡ map pair_row (filter (is_told t (ordered_by t order) stays) (left_pairs t stays))
+  told_by_groups =
+      ap (filter (is_untimed t.processes)) nearest_by_groups
+      ∙ filter_mapped (is_untimed t.processes) (λ (pair : OpName × OpName). not (ended_before t pair.0 pair.1)) pair_row (filter (is_nearest t (ordered_by t order) stays) (left_pairs t stays)) (λ pair c. untimed_alike pair)
+      ∙ ap (map pair_row) (filter_twice (λ (pair : OpName × OpName). not (ended_before t pair.0 pair.1)) (is_nearest t (ordered_by t order) stays) (left_pairs t stays))
 
   -- the name of a row
   named_at : (n : OpName) → IsSome (operation_at t n) → (p : Process) × (slice_get t.processes (order_of t.processes n.process) ≡ Some p) × (p.name ≡ n.process)

@@ -5,8 +5,10 @@ use Rattle.std.specs.List.Sorted.{IsPartitionedBy}
 use Rattle.trace_semantics.specs.declared.operation.Op.{Op}
 use Rattle.trace_semantics.specs.declared.operation.OpName.{OpName}
 use Rattle.trace_semantics.specs.declared.trace.Process.{Process}
+use Rattle.trace_semantics.specs.KnownOrder.{ends_before}
 use Rattle.trace_semantics.specs.Trace.{TraceValue}
 use Rattle.forced_order.specs.Rows.{OrderValue, stands_by}
+use Rattle.forced_order.specs.Times.{span_by_number}
 use Rattle.restriction.specs.Left.{is_left, names_of}
 use Rattle.trace_part.specs.declared.left_names.LeftName.{LeftName}
 use Rattle.trace_part.specs.Rows.{left_row}
@@ -44,6 +46,10 @@ first_of (n ∷ names) = Some n
 abbrev pub told_from : OrderValue → List (List LeftName) → List LeftName → List (LeftName × LeftName)
 told_from order groups [] = []
 told_from order groups (m ∷ names) = told_of order m (first_of names) groups ++ told_from order groups names
+
+-- it does not follow from times that the first stands before the second
+abbrev pub is_untimed : List Process → LeftName × LeftName → Bool
+is_untimed processes pair = not (ends_before (span_by_number processes pair.0.name) (span_by_number processes pair.1.name))
 
 -- of the names of the group, those that m stands before come after the others
 abbrev pub IsForwardFrom : OrderValue → LeftName → List LeftName → Type 0

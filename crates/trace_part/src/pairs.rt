@@ -16,6 +16,7 @@ ghost use Rattle.trace_part.specs.declared.left_names.LeftName.{LeftName as Row}
 use crate::left::Left;
 use crate::left_names::{LeftName, LeftNames, left_groups};
 use forced_order::forced_order::ForcedOrder;
+use forced_order::times::ended_before;
 use std::alloc::{AllocError, Global};
 use trace_semantics::name::Name;
 use trace_semantics::operation::OpName;
@@ -162,6 +163,30 @@ fn new_names(
     Ok((first, second))
 }
 
+/// Returns whether it does not follow from times that the first stands before the second.
+fn is_untimed(trace: &Trace, pair: (LeftName, LeftName)) -> bool
+    ensures { result ≡ told.is_untimed trace.now.processes pair }
+{
+    !ended_before(trace, pair.0.name, pair.1.name)
+}
+
+/// Returns the pairs that do not follow from times.
+fn untimed_pairs(
+    alloc: Global,
+    trace: &Trace,
+    pairs: &[(LeftName, LeftName)],
+) -> Result<Vec<(LeftName, LeftName)>, AllocError>
+    ensures { IfOk result (λ left. left.items ≡ filter (told.is_untimed trace.now.processes) pairs.now) }
+{
+    let mut left = Vec::new(alloc);
+    for pair in pairs {
+        if is_untimed(trace, *pair) {
+            left.push(*pair)?;
+        }
+    }
+    Ok(left)
+}
+
 /// The most pairs that a part has.
 const MAX_TOLD: usize = 4096;
 
@@ -179,7 +204,8 @@ pub fn pairs_left(
 {
     trace.recall_invariant();
     let groups = left_groups(alloc, trace, all)?;
-    let told = told_pairs(alloc, order, groups.as_slice())?;
+    let nearest = told_pairs(alloc, order, groups.as_slice())?;
+    let told = untimed_pairs(alloc, trace, nearest.as_slice())?;
     let few = told.as_slice();
     let count = few.len().min(MAX_TOLD);
     let mut pairs = Vec::new(alloc);

@@ -20,7 +20,7 @@ use forced_order::numbered::OperationNumber;
 use std::alloc::{AllocError, Global};
 use trace_semantics::name::Name;
 use trace_semantics::op_set::OpSet;
-use trace_semantics::operation::{Op, OpName, Origin};
+use trace_semantics::operation::{Op, OpName, Origin, Span};
 use trace_semantics::trace::{Process, Trace};
 
 /// Returns the process of this name.
@@ -115,22 +115,35 @@ fn copy_of_origin(alloc: Global, origin: &Origin) -> Result<Origin, AllocError>
     }
 }
 
-fn new_read(alloc: Global, location: &Name, value: u64, origin: &Origin) -> Result<Op, AllocError>
-    ensures { IfOk result (λ op. op ≡ Read location.now value origin.now) }
+fn new_read(
+    alloc: Global,
+    location: &Name,
+    value: u64,
+    origin: &Origin,
+    span: Option<Span>,
+) -> Result<Op, AllocError>
+    ensures { IfOk result (λ op. op ≡ Read location.now value origin.now span) }
 {
     Ok(Op::Read {
         location: Name::copy_of(alloc, location.as_bytes())?,
         value,
         origin: copy_of_origin(alloc, origin)?,
+        span,
     })
 }
 
-fn new_write(alloc: Global, location: &Name, value: u64) -> Result<Op, AllocError>
-    ensures { IfOk result (λ op. op ≡ Write location.now value) }
+fn new_write(
+    alloc: Global,
+    location: &Name,
+    value: u64,
+    span: Option<Span>,
+) -> Result<Op, AllocError>
+    ensures { IfOk result (λ op. op ≡ Write location.now value span) }
 {
     Ok(Op::Write {
         location: Name::copy_of(alloc, location.as_bytes())?,
         value,
+        span,
     })
 }
 
@@ -140,14 +153,16 @@ fn new_update(
     read: u64,
     left: u64,
     origin: &Origin,
+    span: Option<Span>,
 ) -> Result<Op, AllocError>
-    ensures { IfOk result (λ op. op ≡ Update location.now read left origin.now) }
+    ensures { IfOk result (λ op. op ≡ Update location.now read left origin.now span) }
 {
     Ok(Op::Update {
         location: Name::copy_of(alloc, location.as_bytes())?,
         read,
         left,
         origin: copy_of_origin(alloc, origin)?,
+        span,
     })
 }
 
@@ -158,11 +173,12 @@ fn read_stays(
     location: &Name,
     value: u64,
     origin: &Origin,
+    span: Option<Span>,
 ) -> Result<Option<Op>, AllocError>
-    ensures { IfOk result (λ left. left ≡ (if keeps then Some (Read location.now value origin.now) else None)) }
+    ensures { IfOk result (λ left. left ≡ (if keeps then Some (Read location.now value origin.now span) else None)) }
 {
     if keeps {
-        Ok(Some(new_read(alloc, location, value, origin)?))
+        Ok(Some(new_read(alloc, location, value, origin, span)?))
     } else {
         Ok(None)
     }
@@ -176,13 +192,14 @@ fn update_stays(
     read: u64,
     left: u64,
     origin: &Origin,
+    span: Option<Span>,
 ) -> Result<Op, AllocError>
-    ensures { IfOk result (λ op. op ≡ (if keeps then Update location.now read left origin.now else Write location.now left)) }
+    ensures { IfOk result (λ op. op ≡ (if keeps then Update location.now read left origin.now span else Write location.now left span)) }
 {
     if keeps {
-        new_update(alloc, location, read, left, origin)
+        new_update(alloc, location, read, left, origin, span)
     } else {
-        new_write(alloc, location, left)
+        new_write(alloc, location, left, span)
     }
 }
 
@@ -201,21 +218,28 @@ fn stays_of<'a>(
             location,
             value,
             origin,
+            span,
         } => {
             let name = location.as_bytes();
             let keeps = keeps_read(alloc, selection, reader, name, *value, origin)?;
-            read_stays(alloc, keeps, location, *value, origin)
+            read_stays(alloc, keeps, location, *value, origin, *span)
         }
-        Op::Write { location, value } => Ok(Some(new_write(alloc, location, *value)?)),
+        Op::Write {
+            location,
+            value,
+            span,
+        } => Ok(Some(new_write(alloc, location, *value, *span)?)),
         Op::Update {
             location,
             read,
             left,
             origin,
+            span,
         } => {
             let name = location.as_bytes();
             let keeps = keeps_read(alloc, selection, reader, name, *read, origin)?;
-            Ok(Some(update_stays(alloc, keeps, location, *read, *left, origin)?))
+            let new = update_stays(alloc, keeps, location, *read, *left, origin, *span)?;
+            Ok(Some(new))
         }
     }
 }

@@ -1,7 +1,9 @@
 pub mod CauseLemmas
 pub mod DistinctLemmas
 pub mod ElementLemmas
+mod Examples
 pub mod JudgementLemmas
+pub mod KnownOrderLemmas
 pub mod LimitLemmas
 pub mod NameByteLemmas
 pub mod NameLemmas

@@ -1,5 +1,5 @@
 -- The first fault of a list of names, and what is said of it.
-use Rattle.std.specs.Prelude.{◌≡◌, ◌⊎◌, ◌+◌, ◌-◌, ℕ, List, length, map, Option, Some, None, is_none, Bool, true, false, not, ◌==◌, if◌then◌else◌}
+use Rattle.std.specs.Prelude.{◌≡◌, ◌⊎◌, ◌+◌, ◌-◌, ℕ, List, ◌++◌, length, map, Option, Some, None, is_none, Bool, true, false, not, ◌==◌, if◌then◌else◌}
 use Rattle.std.specs.List.{list_any, list_all, filter}
 use Rattle.text_lines.specs.FirstFault.{IsFaultless, IsFirstFault}
 use Rattle.trace_semantics.specs.declared.judgement.IllegalCause.{IllegalCause}
@@ -10,6 +10,7 @@ use Rattle.trace_semantics.specs.declared.operation.Op.{Op}
 use Rattle.trace_semantics.specs.declared.operation.OpName.{OpName}
 use Rattle.trace_semantics.specs.declared.operation.Origin.{Origin}
 use Rattle.trace_semantics.specs.declared.operation.Origin.TheVariants.{Any, Initial, Operation}
+use Rattle.trace_semantics.specs.KnownOrder.{ended_before}
 use Rattle.trace_semantics.specs.Operation.{location_of, value_read, origin_of, same_op}
 use Rattle.trace_semantics.specs.Trace.{TraceValue, operation_at, operation_names, first_names}
 use Rattle.trace_semantics.specs.ValueAfter.{value_after, last_writer}
@@ -19,8 +20,16 @@ abbrev pub has_come : List OpName → OpName → Bool
 has_come names n = list_any (same_op n) names
 
 -- the operations that a before pair puts before this one
+abbrev pub paired_before : TraceValue → OpName → List OpName
+paired_before t n = map (λ (pair : OpName × OpName). pair.0) (filter (λ (pair : OpName × OpName). same_op pair.1 n) t.before)
+
+-- the operations that had ended before this one began
+abbrev pub timed_before : TraceValue → OpName → List OpName
+timed_before t n = filter (λ m. ended_before t m n) (operation_names t)
+
+-- the operations that the trace puts before this one
 abbrev pub put_before : TraceValue → OpName → List OpName
-put_before t n = map (λ (pair : OpName × OpName). pair.0) (filter (λ (pair : OpName × OpName). same_op pair.1 n) t.before)
+put_before t n = paired_before t n ++ timed_before t n
 
 -- this value is held
 abbrev pub is_held : Option ℕ → ℕ → Bool

@@ -1,6 +1,7 @@
 pub mod Interleaving
 pub mod Judgement
 pub mod JudgementText
+pub mod KnownOrder
 pub mod Legal
 pub mod Limits
 pub mod Locations

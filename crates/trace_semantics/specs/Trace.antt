@@ -1,5 +1,5 @@
 -- A trace (reads and writes: Gibbons and Korach, 1997), and which operation a name names.
-use Rattle.std.specs.Prelude.{◌≡◌, ◌≢◌, ◌≤◌, ◌^◌, ◌&&◌, ⊤, true, nat_le, nat_lt, ℕ, zero, suc, List, ◌++◌, length, map, Option, None, IsSome, Bool}
+use Rattle.std.specs.Prelude.{◌≡◌, ◌≢◌, ◌≤◌, ◌^◌, ◌&&◌, ⊤, true, nat_le, nat_lt, ℕ, zero, suc, List, ◌++◌, length, map, Option, Some, None, IsSome, Bool}
 use Rattle.std.specs.List.{slice_get, find, flat_map, list_all, sum_by, range_with_len, All, AllPairs}
 use Rattle.std.specs.Cmp.Lexicographic.{slice_cmp}
 use Rattle.std.specs.declared.cmp.Ordering.TheVariants.{Less}
@@ -11,12 +11,13 @@ use Rattle.trace_semantics.specs.declared.operation.Op.TheVariants.{Read, Write,
 use Rattle.trace_semantics.specs.declared.operation.OpName.{OpName}
 use Rattle.trace_semantics.specs.declared.operation.Origin.{Origin}
 use Rattle.trace_semantics.specs.declared.operation.Origin.TheVariants.{Any, Initial, Operation}
+use Rattle.trace_semantics.specs.declared.operation.Span.{Span}
 use Rattle.trace_semantics.specs.declared.trace.Process.{Process}
 use Rattle.trace_semantics.specs.declared.limits.Limits.TheVariants.{Large}
 use Rattle.trace_semantics.specs.Limits.{max_operations, max_locations, max_pairs}
 use Rattle.trace_semantics.specs.Locations.{distinct}
 use Rattle.trace_semantics.specs.Names.{is_name}
-use Rattle.trace_semantics.specs.Operation.{location_of, origin_of}
+use Rattle.trace_semantics.specs.Operation.{location_of, origin_of, span_of}
 use Rattle.trace_semantics.specs.PairOrder.{ArePairsRising}
 
 -- processes in order; initial and final values by location; pairs of which the first stands before the second
@@ -69,6 +70,11 @@ IsKnownOrigin t Any = ⊤
 IsKnownOrigin t Initial = ⊤
 IsKnownOrigin t (Operation n) = IsSome (operation_at t n)
 
+-- an operation does not end before it starts
+abbrev pub IsSpan : Option Span → Type 0
+IsSpan None = ⊤
+IsSpan (Some span) = span.start ≤ span.end
+
 -- a location, and a value that a text can write
 abbrev pub is_written_value : List ℕ × ℕ → Bool
 is_written_value entry = is_name entry.0 && nat_lt entry.1 (2 ^ 64)
@@ -82,10 +88,15 @@ is_written_origin Any = true
 is_written_origin Initial = true
 is_written_origin (Operation n) = is_written_name n
 
+-- times that a text can write
+abbrev pub is_written_span : Option Span → Bool
+is_written_span None = true
+is_written_span (Some span) = nat_lt span.start (2 ^ 64) && nat_lt span.end (2 ^ 64)
+
 abbrev pub is_written_op : Op → Bool
-is_written_op (Read location value origin) = is_name location && (nat_lt value (2 ^ 64) && is_written_origin origin)
-is_written_op (Write location value) = is_name location && nat_lt value (2 ^ 64)
-is_written_op (Update location read left origin) = is_name location && (nat_lt read (2 ^ 64) && (nat_lt left (2 ^ 64) && is_written_origin origin))
+is_written_op (Read location value origin span) = is_name location && (nat_lt value (2 ^ 64) && (is_written_origin origin && is_written_span span))
+is_written_op (Write location value span) = is_name location && (nat_lt value (2 ^ 64) && is_written_span span)
+is_written_op (Update location read left origin span) = is_name location && (nat_lt read (2 ^ 64) && (nat_lt left (2 ^ 64) && (is_written_origin origin && is_written_span span)))
 
 abbrev pub is_written_process : Process → Bool
 is_written_process p = is_name p.name && list_all is_written_op p.operations
@@ -93,7 +104,7 @@ is_written_process p = is_name p.name && list_all is_written_op p.operations
 abbrev pub is_written_pair : OpName × OpName → Bool
 is_written_pair pair = is_written_name pair.0 && is_written_name pair.1
 
--- names are names, values are below 2^64, and places are 1 to 4294967295
+-- names are names, values and times are below 2^64, and places are 1 to 4294967295
 pub record IsWritten (t : TraceValue) : Type 0 where
   pub processes : list_all is_written_process t.processes ≡ true
   pub initial : list_all is_written_value t.initial ≡ true
@@ -122,5 +133,6 @@ pub record IsTrace (t : TraceValue) : Type 0 where
   pub final_order : IsRising t.final_values
   pub before_apart : All (λ (pair : OpName × OpName). pair.0 ≢ pair.1) t.before
   pub origins : All (λ (p : Process). All (λ (op : Op). IsKnownOrigin t (origin_of op)) p.operations) t.processes
+  pub spans : All (λ (p : Process). All (λ (op : Op). IsSpan (span_of op)) p.operations) t.processes
   pub before_order : ArePairsRising t.processes t.before
   pub few_locations : location_count t ≤ max_locations Large

@@ -17,7 +17,7 @@ pub enum IllegalCause {
     MissingOp,
     /// A location holds another value in the end than the trace says.
     WrongFinal,
-    /// An operation that the trace puts before it has not come yet.
+    /// An operation that the trace puts before it, by a before pair or by times, has not come yet.
     BeforeBroken,
     /// Its value is not from where the trace says.
     WrongSource,

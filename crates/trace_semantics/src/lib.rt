@@ -6,6 +6,7 @@
 
 pub mod held_value;
 pub mod judgement;
+pub mod known_order;
 pub mod laws;
 pub mod limits;
 pub mod name;

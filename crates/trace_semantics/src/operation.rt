@@ -39,18 +39,27 @@ impl Drop for Origin {
     }
 }
 
-/// An operation. Each is one point of a schedule.
+/// When an operation was under way, by the clocks of its machine: it began at one time, and had ended by the other.
+#[derive(Clone, Copy)]
+pub struct Span {
+    pub start: u64,
+    pub end: u64,
+}
+
+/// An operation. Each is one point of a schedule, within its span if it has one.
 pub enum Op {
     /// Reads this value at the location.
     Read {
         location: Name,
         value: u64,
         origin: Origin,
+        span: Option<Span>,
     },
     /// Writes this value to the location.
     Write {
         location: Name,
         value: u64,
+        span: Option<Span>,
     },
     /// Reads one value at the location and leaves another there.
     Update {
@@ -58,6 +67,7 @@ pub enum Op {
         read: u64,
         left: u64,
         origin: Origin,
+        span: Option<Span>,
     },
 }
 
@@ -69,16 +79,19 @@ impl Drop for Op {
                 location: _location,
                 value: _,
                 origin: _origin,
+                span: _,
             } => {}
             Op::Write {
                 location: _location,
                 value: _,
+                span: _,
             } => {}
             Op::Update {
                 location: _location,
                 read: _,
                 left: _,
                 origin: _origin,
+                span: _,
             } => {}
         }
     }
@@ -86,7 +99,7 @@ impl Drop for Op {
 
 impl Op {
     ghost use Rattle.std.specs.Prelude.{◌≡◌};
-    ghost use Rattle.trace_semantics.specs.Operation.{location_of, value_read, written_value};
+    ghost use Rattle.trace_semantics.specs.Operation.{location_of, value_read, written_value, span_of};
 
     /// The location on which it works.
     pub fn location(&self) -> &Name
@@ -118,6 +131,17 @@ impl Op {
             Op::Read { .. } => None,
             Op::Write { value, .. } => Some(*value),
             Op::Update { left, .. } => Some(*left),
+        }
+    }
+
+    /// When it was under way, if the trace says so.
+    pub fn span(&self) -> Option<Span>
+        ensures { result ≡ span_of self.now }
+    {
+        match self {
+            Op::Read { span, .. } => *span,
+            Op::Write { span, .. } => *span,
+            Op::Update { span, .. } => *span,
         }
     }
 }

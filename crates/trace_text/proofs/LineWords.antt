@@ -4,4 +4,6 @@ pub mod KnownLemmas
 pub mod LineLemmas
 pub mod ReferenceLemmas
 pub mod SaidLemmas
+pub mod SpanLemmas
 pub mod SpellLemmas
+pub mod TimedLemmas

@@ -1,11 +1,11 @@
 -- The lines of a trace determine it.
 use Rattle.std.proofs.Common.{◌≡◌, ℕ, List, [], ◌∷◌, ◌++◌, map, get_or, true, refl, ap, sym, ◌∙◌, subst, arith}
-use Rattle.std.specs.Prelude.{◌↔◌, codes}
+use Rattle.std.specs.Prelude.{◌↔◌, ◌^◌, Option, Some, None, codes, nat_lt}
 use Rattle.std.specs.Fmt.{decimal}
 use Rattle.std.specs.List.{list_all, filter, flat_map, Contains}
 use Rattle.std.specs.List.Sorted.{IsPermutation}
 use Rattle.std.specs.Str.Parse.{digits_value}
-use Rattle.std.proofs.lemmas.Bool.{and_parts}
+use Rattle.std.proofs.lemmas.Bool.{and_parts, ltb-true}
 use Rattle.std.proofs.lemmas.Fmt.{decimal_injective, decimal_is_IsNumeral}
 use Rattle.std.proofs.lemmas.List.Sorted.{IsPermutation-map, IsPermutation-sym, IsPermutation-trans}
 use Rattle.text_lines.specs.Lines.{lines_of}
@@ -14,18 +14,19 @@ use Rattle.trace_semantics.specs.declared.operation.Op.TheVariants.{Read, Write,
 use Rattle.trace_semantics.specs.declared.operation.OpName.{OpName}
 use Rattle.trace_semantics.specs.declared.operation.Origin.{Origin}
 use Rattle.trace_semantics.specs.declared.operation.Origin.TheVariants.{Any, Initial, Operation}
+use Rattle.trace_semantics.specs.declared.operation.Span.{Span}
 use Rattle.trace_semantics.specs.declared.trace.Process.{Process}
 use Rattle.text_lines.specs.Kept.{kept}
 use Rattle.trace_semantics.specs.Names.{is_name}
 use Rattle.trace_semantics.specs.PairOrder.{ArePairsRising}
-use Rattle.trace_semantics.specs.Trace.{TraceValue, IsTrace, IsWritten, is_written_value, is_written_name, is_written_origin, is_written_op, is_written_process, is_written_pair}
-use Rattle.trace_text.specs.TraceText.{SpellsTrace, begins, is_process_line, header_line, init_line, final_line, proc_line, origin_words, op_line, process_lines, before_line}
+use Rattle.trace_semantics.specs.Trace.{TraceValue, IsTrace, IsWritten, is_written_value, is_written_name, is_written_origin, is_written_span, is_written_op, is_written_process, is_written_pair}
+use Rattle.trace_text.specs.TraceText.{SpellsTrace, begins, is_process_line, header_line, init_line, final_line, proc_line, origin_words, span_words, op_line, process_lines, before_line}
 use Rattle.trace_text.specs.TraceWritten.{canonical_body, canonical_lines, canonical_trace}
 use Rattle.trace_semantics.proofs.ElementLemmas.{all_pass, from_map, to_map}
 use Rattle.trace_text.proofs.Writing.LineTextLemmas.{written_kept}
 use Rattle.trace_text.proofs.InOrder.RisingLemmas.{values_same, pairs_same}
 use Rattle.trace_text.proofs.Writing.TraceWrittenLemmas.{lines_kept_of, process_part, init_part, final_part, before_part}
-use Rattle.trace_text.proofs.Writing.WritableLemmas.{name_parts, value_parts, read_parts, update_parts}
+use Rattle.trace_text.proofs.Writing.WritableLemmas.{name_parts, value_parts, read_parts, write_parts, update_parts}
 
 -- words determine operations' names
 same_op_name : (m n : OpName) → is_written_name m ≡ true → is_written_name n ≡ true → m.process ≡ n.process → decimal m.place ≡ decimal n.place → m ≡ n
@@ -57,45 +58,94 @@ first_byte words = get_or (get_or words 0 []) 0 0
 same_first : (a b : List (List ℕ)) → a ≡ b → first_byte a ≡ first_byte b
 same_first a b e = ap first_byte e
 
+-- words determine a span
+same_span : (s r : Option Span) → is_written_span s ≡ true → is_written_span r ≡ true → span_words s ≡ span_words r → s ≡ r
+same_span None None h k e = refl
+same_span None (Some r) h k e = absurd (cc)
+same_span (Some s) None h k e = absurd (cc)
+same_span (Some s) (Some r) h k e =
+    let first = and_parts (nat_lt s.start (2 ^ 64)) (nat_lt s.end (2 ^ 64)) h in
+    let second = and_parts (nat_lt r.start (2 ^ 64)) (nat_lt r.end (2 ^ 64)) k in
+    let start_digits : decimal s.start ≡ decimal r.start = cc in
+    let end_digits : decimal s.end ≡ decimal r.end = cc in
+    let start = decimal_injective s.start r.start (ltb-true s.start (2 ^ 64) first.0) (ltb-true r.start (2 ^ 64) second.0) start_digits in
+    let end = decimal_injective s.end r.end (ltb-true s.end (2 ^ 64) first.1) (ltb-true r.end (2 ^ 64) second.1) end_digits in
+    (λ i. Some (record { start = start i; end = end i }))
+
+-- where a value comes from, and when, are apart in the words
+record AreApart (o p : Origin) (s r : Option Span) : Type 0 where
+  origins : origin_words o ≡ origin_words p
+  spans : span_words s ≡ span_words r
+
+words_apart : (o p : Origin) (s r : Option Span) → origin_words o ++ span_words s ≡ origin_words p ++ span_words r → AreApart o p s r
+words_apart Any Any s r e = record { origins = refl; spans = e }
+words_apart Any Initial None r e = absurd (cc)
+words_apart Any Initial (Some s) r e = let bytes = same_first (span_words (Some s)) (origin_words Initial ++ span_words r) e in absurd (omega (arith, bytes))
+words_apart Any (Operation n) None r e = absurd (cc)
+words_apart Any (Operation n) (Some s) r e = let bytes = same_first (span_words (Some s)) (origin_words (Operation n) ++ span_words r) e in absurd (omega (arith, bytes))
+words_apart Initial Any s None e = absurd (cc)
+words_apart Initial Any s (Some r) e = let bytes = same_first (origin_words Initial ++ span_words s) (span_words (Some r)) e in absurd (omega (arith, bytes))
+words_apart Initial Initial s r e = record { origins = refl; spans = (cc) }
+words_apart Initial (Operation n) None r e = absurd (cc)
+words_apart Initial (Operation n) (Some s) None e = absurd (cc)
+words_apart Initial (Operation n) (Some s) (Some r) e = absurd (cc)
+words_apart (Operation m) Any s None e = absurd (cc)
+words_apart (Operation m) Any s (Some r) e = let bytes = same_first (origin_words (Operation m) ++ span_words s) (span_words (Some r)) e in absurd (omega (arith, bytes))
+words_apart (Operation m) Initial s None e = absurd (cc)
+words_apart (Operation m) Initial None (Some r) e = absurd (cc)
+words_apart (Operation m) Initial (Some s) (Some r) e = absurd (cc)
+words_apart (Operation m) (Operation n) s r e =
+    let process : m.process ≡ n.process = cc in
+    let digits : decimal m.place ≡ decimal n.place = cc in
+    record { origins = λ i. codes "from" ∷ process i ∷ digits i ∷ []; spans = (cc) }
+
 -- a line gives the operation
 same_op : (a b : Op) → is_written_op a ≡ true → is_written_op b ≡ true → op_line a ≡ op_line b → a ≡ b
-same_op (Read l v o) (Read m w p) h k e =
-    let first = read_parts l v o h in
-    let second = read_parts m w p k in
+same_op (Read l v o s) (Read m w p r) h k e =
+    let first = read_parts l v o s h in
+    let second = read_parts m w p r k in
     let location : l ≡ m = cc in
     let digits : decimal v ≡ decimal w = cc in
-    let words : origin_words o ≡ origin_words p = cc in
+    let words : origin_words o ++ span_words s ≡ origin_words p ++ span_words r = cc in
+    let parts = words_apart o p s r words in
     let value = decimal_injective v w first.small second.small digits in
-    let origin = same_origin o p first.origin_is second.origin_is words in
-    (λ i. Read (location i) (value i) (origin i))
-same_op (Read l v o) (Write m w) h k e = let bytes = same_first (op_line (Read l v o)) (op_line (Write m w)) e in absurd (omega (arith, bytes))
-same_op (Read l v o) (Update m w x p) h k e = let bytes = same_first (op_line (Read l v o)) (op_line (Update m w x p)) e in absurd (omega (arith, bytes))
-same_op (Write l v) (Read m w p) h k e = let bytes = same_first (op_line (Write l v)) (op_line (Read m w p)) e in absurd (omega (arith, bytes))
-same_op (Write l v) (Write m w) h k e =
+    let origin = same_origin o p first.origin_is second.origin_is parts.origins in
+    let span = same_span s r first.span_is second.span_is parts.spans in
+    (λ i. Read (location i) (value i) (origin i) (span i))
+same_op (Read l v o s) (Write m w r) h k e = let bytes = same_first (op_line (Read l v o s)) (op_line (Write m w r)) e in absurd (omega (arith, bytes))
+same_op (Read l v o s) (Update m w x p r) h k e = let bytes = same_first (op_line (Read l v o s)) (op_line (Update m w x p r)) e in absurd (omega (arith, bytes))
+same_op (Write l v s) (Read m w p r) h k e = let bytes = same_first (op_line (Write l v s)) (op_line (Read m w p r)) e in absurd (omega (arith, bytes))
+same_op (Write l v s) (Write m w r) h k e =
+    let first = write_parts l v s h in
+    let second = write_parts m w r k in
     let location : l ≡ m = cc in
     let digits : decimal v ≡ decimal w = cc in
-    let value = decimal_injective v w (value_parts l v h).1 (value_parts m w k).1 digits in
-    (λ i. Write (location i) (value i))
-same_op (Write l v) (Update m w x p) h k e = let bytes = same_first (op_line (Write l v)) (op_line (Update m w x p)) e in absurd (omega (arith, bytes))
-same_op (Update l u v o) (Read m w p) h k e = let bytes = same_first (op_line (Update l u v o)) (op_line (Read m w p)) e in absurd (omega (arith, bytes))
-same_op (Update l u v o) (Write m w) h k e = let bytes = same_first (op_line (Update l u v o)) (op_line (Write m w)) e in absurd (omega (arith, bytes))
-same_op (Update l u v o) (Update m w x p) h k e =
-    let first = update_parts l u v o h in
-    let second = update_parts m w x p k in
+    let words : span_words s ≡ span_words r = cc in
+    let value = decimal_injective v w first.small second.small digits in
+    let span = same_span s r first.span_is second.span_is words in
+    (λ i. Write (location i) (value i) (span i))
+same_op (Write l v s) (Update m w x p r) h k e = let bytes = same_first (op_line (Write l v s)) (op_line (Update m w x p r)) e in absurd (omega (arith, bytes))
+same_op (Update l u v o s) (Read m w p r) h k e = let bytes = same_first (op_line (Update l u v o s)) (op_line (Read m w p r)) e in absurd (omega (arith, bytes))
+same_op (Update l u v o s) (Write m w r) h k e = let bytes = same_first (op_line (Update l u v o s)) (op_line (Write m w r)) e in absurd (omega (arith, bytes))
+same_op (Update l u v o s) (Update m w x p r) h k e =
+    let first = update_parts l u v o s h in
+    let second = update_parts m w x p r k in
     let location : l ≡ m = cc in
     let read_digits : decimal u ≡ decimal w = cc in
     let left_digits : decimal v ≡ decimal x = cc in
-    let words : origin_words o ≡ origin_words p = cc in
+    let words : origin_words o ++ span_words s ≡ origin_words p ++ span_words r = cc in
+    let parts = words_apart o p s r words in
     let read = decimal_injective u w first.read_small second.read_small read_digits in
     let left = decimal_injective v x first.left_small second.left_small left_digits in
-    let origin = same_origin o p first.origin_is second.origin_is words in
-    (λ i. Update (location i) (read i) (left i) (origin i))
+    let origin = same_origin o p first.origin_is second.origin_is parts.origins in
+    let span = same_span s r first.span_is second.span_is parts.spans in
+    (λ i. Update (location i) (read i) (left i) (origin i) (span i))
 
 -- no line of an operation begins a process
 not_proc : (name : List ℕ) (op : Op) → proc_line name ≡ op_line op → ⊥
-not_proc name (Read l v o) e = let bytes = same_first (proc_line name) (op_line (Read l v o)) e in omega (arith, bytes)
-not_proc name (Write l v) e = let bytes = same_first (proc_line name) (op_line (Write l v)) e in omega (arith, bytes)
-not_proc name (Update l v w o) e = let bytes = same_first (proc_line name) (op_line (Update l v w o)) e in omega (arith, bytes)
+not_proc name (Read l v o s) e = let bytes = same_first (proc_line name) (op_line (Read l v o s)) e in omega (arith, bytes)
+not_proc name (Write l v s) e = let bytes = same_first (proc_line name) (op_line (Write l v s)) e in omega (arith, bytes)
+not_proc name (Update l v w o s) e = let bytes = same_first (proc_line name) (op_line (Update l v w o s)) e in omega (arith, bytes)
 
 not_op : (ps : List Process) (op : Op) (rest : List (List (List ℕ))) → flat_map process_lines ps ≡ op_line op ∷ rest → ⊥
 not_op [] op rest e = cc

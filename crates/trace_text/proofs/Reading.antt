@@ -6,5 +6,6 @@ pub mod EntryOfLemmas
 pub mod GatherLemmas
 pub mod GatheredLemmas
 pub mod LocationLemmas
+pub mod NumberLemmas
 pub mod SeenLemmas
 pub mod TraceReadLemmas

@@ -1,5 +1,5 @@
 -- How far a trace text is read.
-use Rattle.std.specs.Prelude.{◌≡◌, ◌≤◌, ◌+◌, ℕ, Bool, List, [], ◌∷◌, ◌++◌, length, map, Option, Some, None}
+use Rattle.std.specs.Prelude.{◌≡◌, ◌≤◌, ◌+◌, ℕ, List, [], ◌∷◌, ◌++◌, length, map, Option, Some, None}
 use Rattle.text_lines.specs.FirstFault.{IsFaultless}
 use Rattle.text_lines.specs.Lines.{lines_of}
 use Rattle.trace_text.specs.declared.trace_reader.TraceReader.{TraceReader}
@@ -9,16 +9,16 @@ use Rattle.trace_text.specs.Progress.{IsProgress}
 use Rattle.trace_text.specs.Statement.{Statement, words_for, statement_of}
 use Rattle.trace_text.specs.TraceFault.{trace_line_fault, statement_fault}
 use Rattle.trace_text.specs.TraceText.{header_line}
-use Rattle.trace_text.specs.Version.{has_version_2_lines, limits_of}
+use Rattle.trace_text.specs.Version.{limits_of}
 
 -- the statement is what its words say
-abbrev pub saying : Bool → Statement → Option Statement
-saying two s = statement_of two (words_for s)
+abbrev pub saying : Version → Statement → Option Statement
+saying version s = statement_of version (words_for s)
 
 -- these lines say these statements after their header
 pub record AreSaid (version : Version) (lines : List (List ℕ)) (ss : List Statement) : Type 0 where
   pub kept_lines : kept lines ≡ header_line version ∷ map words_for ss
-  pub said : map (saying (has_version_2_lines version)) ss ≡ map Some ss
+  pub said : map (saying version) ss ≡ map Some ss
   pub faultless : IsFaultless (statement_fault (limits_of version)) ss
 
 -- a line is taken that says no more, or one more statement
@@ -31,7 +31,7 @@ pub record TakesLine (version : Version) (before : List (List ℕ)) (line : List
 -- words are taken that say one more statement
 pub record TakesWords (version : Version) (ss : List Statement) (words : List (List ℕ)) (new : TraceReader) : Type 0 where
   pub s : Statement
-  pub says : statement_of (has_version_2_lines version) words ≡ Some s
+  pub says : statement_of version words ≡ Some s
   pub faultless : statement_fault (limits_of version) ss s ≡ None
   pub progress : IsProgress (limits_of version) (ss ++ s ∷ []) new
 

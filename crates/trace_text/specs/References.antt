@@ -11,6 +11,7 @@ use Rattle.trace_text.specs.declared.trace_fault.TraceCause.TheVariants.{NoSuchO
 use Rattle.text_lines.specs.Fault.{IsRefusal}
 use Rattle.text_lines.specs.declared.fault.PlacedFault.{PlacedFault}
 use Rattle.text_lines.specs.Kept.{is_skipped}
+use Rattle.trace_text.specs.declared.version.Version.{Version}
 use Rattle.trace_text.specs.Statement.{Statement, statement_of}
 use Rattle.trace_semantics.specs.Place.{place_of}
 use Rattle.trace_text.specs.TraceFault.{references_of, is_before_itself}
@@ -37,9 +38,9 @@ fault_of_references processes (Some s) =
     else None
 
 -- what is wrong with the operations that a line names
-abbrev pub fault_of_line : Bool → List Process → List ℕ → Option TraceCause
-fault_of_line two processes line = if is_skipped (words_of line) then None else fault_of_references processes (statement_of two (words_of line))
+abbrev pub fault_of_line : Version → List Process → List ℕ → Option TraceCause
+fault_of_line version processes line = if is_skipped (words_of line) then None else fault_of_references processes (statement_of version (words_of line))
 
 -- the first line that names an operation wrongly
-abbrev pub IsRefusedByReferences : Bool → List Process → List ℕ → PlacedFault TraceCause → Type 0
-IsRefusedByReferences two processes text fault = IsRefusal (λ cause line. IsFirstFault (λ _ here. fault_of_line two processes here) (lines_of text) line cause) fault
+abbrev pub IsRefusedByReferences : Version → List Process → List ℕ → PlacedFault TraceCause → Type 0
+IsRefusedByReferences version processes text fault = IsRefusal (λ cause line. IsFirstFault (λ _ here. fault_of_line version processes here) (lines_of text) line cause) fault

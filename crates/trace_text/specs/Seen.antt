@@ -42,9 +42,9 @@ abbrev pub fault_behind : Limits → Seen → Statement → Option TraceCause
 fault_behind limits seen (Init location value) = if has seen.initial location then Some InitTwice else fault_of_location limits seen location
 fault_behind limits seen (Final location value) = if has seen.final_values location then Some FinalTwice else fault_of_location limits seen location
 fault_behind limits seen (Proc name) = if has seen.processes name then Some ProcTwice else if nat_le 64 seen.process_count then Some TooManyProcs else None
-fault_behind limits seen (Read location value source) = fault_of_operation limits seen location
-fault_behind limits seen (Write location value) = fault_of_operation limits seen location
-fault_behind limits seen (Update location read left source) = fault_of_operation limits seen location
+fault_behind limits seen (Read location value source times) = fault_of_operation limits seen location
+fault_behind limits seen (Write location value times) = fault_of_operation limits seen location
+fault_behind limits seen (Update location read left source times) = fault_of_operation limits seen location
 fault_behind limits seen (Before process place other other_place) = if nat_le (max_pairs limits) seen.before_count then Some TooManyBefore else None
 
 -- the statement names this location

@@ -1,7 +1,7 @@
 -- The numbers and the names of the causes for which a text is refused.
 use Rattle.std.specs.Prelude.{ℕ, List, codes}
 use Rattle.trace_text.specs.declared.trace_fault.TraceCause.{TraceCause}
-use Rattle.trace_text.specs.declared.trace_fault.TraceCause.TheVariants.{NotAscii, Header, UnknownLine, BadName, BadNumber, InitTwice, FinalTwice, ProcTwice, OpOutsideProc, LateHeaderLine, TooManyProcs, TooManyOps, TooManyLocations, NoSuchOp, BeforeItself, TooManyBefore}
+use Rattle.trace_text.specs.declared.trace_fault.TraceCause.TheVariants.{NotAscii, Header, UnknownLine, BadName, BadNumber, InitTwice, FinalTwice, ProcTwice, OpOutsideProc, LateHeaderLine, TooManyProcs, TooManyOps, TooManyLocations, NoSuchOp, BeforeItself, TooManyBefore, EndsBeforeStart}
 
 abbrev pub cause_number : TraceCause → ℕ
 cause_number NotAscii = 2
@@ -20,6 +20,7 @@ cause_number TooManyLocations = 14
 cause_number NoSuchOp = 15
 cause_number BeforeItself = 16
 cause_number TooManyBefore = 17
+cause_number EndsBeforeStart = 18
 
 abbrev pub cause_name : TraceCause → List ℕ
 cause_name NotAscii = codes "NotAscii"
@@ -38,3 +39,4 @@ cause_name TooManyLocations = codes "TooManyLocations"
 cause_name NoSuchOp = codes "NoSuchOp"
 cause_name BeforeItself = codes "BeforeItself"
 cause_name TooManyBefore = codes "TooManyBefore"
+cause_name EndsBeforeStart = codes "EndsBeforeStart"

@@ -9,17 +9,17 @@ use Rattle.text_lines.specs.Numbers.{plain_number_up_to}
 use Rattle.text_lines.specs.Words.{words_of}
 use Rattle.trace_semantics.specs.Place.{place_of}
 use Rattle.trace_text.specs.declared.trace_fault.TraceCause.{TraceCause}
-use Rattle.trace_text.specs.declared.trace_fault.TraceCause.TheVariants.{NotAscii, Header, UnknownLine, BadName, BadNumber, InitTwice, FinalTwice, ProcTwice, OpOutsideProc, LateHeaderLine, TooManyProcs, TooManyOps, TooManyLocations, NoSuchOp, BeforeItself, TooManyBefore}
+use Rattle.trace_text.specs.declared.trace_fault.TraceCause.TheVariants.{NotAscii, Header, UnknownLine, BadName, BadNumber, InitTwice, FinalTwice, ProcTwice, OpOutsideProc, LateHeaderLine, TooManyProcs, TooManyOps, TooManyLocations, NoSuchOp, BeforeItself, TooManyBefore, EndsBeforeStart}
 use Rattle.text_lines.specs.Kept.{kept, is_skipped}
 use Rattle.trace_semantics.specs.declared.limits.Limits.{Limits}
 use Rattle.trace_semantics.specs.Limits.{max_operations, max_locations, max_pairs, max_place}
 use Rattle.trace_semantics.specs.Locations.{distinct, holds_name}
 use Rattle.trace_semantics.specs.Names.{is_name}
-use Rattle.trace_text.specs.Statement.{ReadsFrom, Unsaid, FromInit, FromOp, Statement, Init, Final, Proc, Read, Write, Update, Before, statement_of}
+use Rattle.trace_text.specs.Statement.{ReadsFrom, Unsaid, FromInit, FromOp, TimesSaid, Untimed, At, Statement, Init, Final, Proc, Read, Write, Update, Before, statement_of}
 use Rattle.trace_text.specs.TraceText.{header_line}
 use Rattle.trace_text.specs.declared.version.Version.{Version}
 use Rattle.trace_text.specs.declared.version.Version.TheVariants.{One, Two, Three}
-use Rattle.trace_text.specs.Version.{has_version_2_lines, limits_of}
+use Rattle.trace_text.specs.Version.{limits_of}
 
 -- kinds of statements
 abbrev pub is_proc : Statement → Bool
@@ -32,9 +32,9 @@ is_value_line (Final location value) = true
 is_value_line s = false
 
 abbrev pub is_operation : Statement → Bool
-is_operation (Read location value source) = true
-is_operation (Write location value) = true
-is_operation (Update location read left source) = true
+is_operation (Read location value source times) = true
+is_operation (Write location value times) = true
+is_operation (Update location read left source times) = true
 is_operation s = false
 
 abbrev pub is_before : Statement → Bool
@@ -48,8 +48,8 @@ references_of_source FromInit = []
 references_of_source (FromOp process place) = (process, place) ∷ []
 
 abbrev pub references_of : Statement → List (List ℕ × List ℕ)
-references_of (Read location value source) = references_of_source source
-references_of (Update location read left source) = references_of_source source
+references_of (Read location value source times) = references_of_source source
+references_of (Update location read left source times) = references_of_source source
 references_of (Before process place other other_place) = (process, place) ∷ (other, other_place) ∷ []
 references_of s = []
 
@@ -57,20 +57,32 @@ references_of s = []
 abbrev pub location_named : Statement → Option (List ℕ)
 location_named (Init location value) = Some location
 location_named (Final location value) = Some location
-location_named (Read location value source) = Some location
-location_named (Write location value) = Some location
-location_named (Update location read left source) = Some location
+location_named (Read location value source times) = Some location
+location_named (Write location value times) = Some location
+location_named (Update location read left source times) = Some location
 location_named s = None
 
--- the words that should be names, and those that should be values
+-- the times that are said, if some are
+abbrev pub times_of : Statement → TimesSaid
+times_of (Read location value source times) = times
+times_of (Write location value times) = times
+times_of (Update location read left source times) = times
+times_of s = Untimed
+
+-- the words that should be times
+abbrev pub time_words : TimesSaid → List (List ℕ)
+time_words Untimed = []
+time_words (At start end) = start ∷ end ∷ []
+
+-- the words that should be names, and those that should be values or times
 abbrev pub own_names : Statement → List (List ℕ)
 own_names (Proc name) = name ∷ []
 own_names (Before process place other other_place) = []
 own_names (Init location value) = location ∷ []
 own_names (Final location value) = location ∷ []
-own_names (Read location value source) = location ∷ []
-own_names (Write location value) = location ∷ []
-own_names (Update location read left source) = location ∷ []
+own_names (Read location value source times) = location ∷ []
+own_names (Write location value times) = location ∷ []
+own_names (Update location read left source times) = location ∷ []
 
 abbrev pub names_of : Statement → List (List ℕ)
 names_of s = own_names s ++ map (λ (r : List ℕ × List ℕ). r.0) (references_of s)
@@ -79,14 +91,24 @@ abbrev pub values_of : Statement → List (List ℕ)
 values_of (Init location value) = value ∷ []
 values_of (Final location value) = value ∷ []
 values_of (Proc name) = []
-values_of (Read location value source) = value ∷ []
-values_of (Write location value) = value ∷ []
-values_of (Update location read left source) = read ∷ left ∷ []
+values_of (Read location value source times) = value ∷ time_words times
+values_of (Write location value times) = value ∷ time_words times
+values_of (Update location read left source times) = read ∷ left ∷ time_words times
 values_of (Before process place other other_place) = []
 
--- a value is a plain number below 2^64
+-- a value, and a time, is a plain number below 2^64
 abbrev pub is_value : List ℕ → Bool
 is_value word = not (is_none (plain_number_up_to (2 ^ 64 - 1) word))
+
+-- the first of two numbers is below the second
+abbrev pub is_less : Option ℕ → Option ℕ → Bool
+is_less (Some m) (Some n) = nat_lt m n
+is_less m n = false
+
+-- the end that is said is below the start
+abbrev pub are_turned : TimesSaid → Bool
+are_turned Untimed = false
+are_turned (At start end) = is_less (plain_number_up_to (2 ^ 64 - 1) end) (plain_number_up_to (2 ^ 64 - 1) start)
 
 -- a place that there is, and is no higher than these limits allow
 abbrev pub is_within : Limits → Option ℕ → Bool
@@ -135,6 +157,7 @@ shape_fault limits earlier s =
     else if is_operation s && not (list_any is_proc earlier) then Some OpOutsideProc
     else if not (list_all is_name (names_of s)) then Some BadName
     else if not (list_all is_value (values_of s) && list_all (λ (r : List ℕ × List ℕ). is_place limits r.1) (references_of s)) then Some BadNumber
+    else if are_turned (times_of s) then Some EndsBeforeStart
     else None
 
 -- what is wrong with a statement after these
@@ -158,13 +181,13 @@ abbrev pub version_of : List (List ℕ) → Version
 version_of words = if pointwise bytes_eq words (header_line Three) then Three else if pointwise bytes_eq words (header_line Two) then Two else One
 
 -- what the lines after a header say
-abbrev pub statements_of : Bool → List (List (List ℕ)) → List Statement
-statements_of two body = filter_map (statement_of two) body
+abbrev pub statements_of : Version → List (List (List ℕ)) → List Statement
+statements_of version body = filter_map (statement_of version) body
 
 -- what is wrong with the words of a line after those of the lines before it, of which the first is the header
 abbrev pub words_fault : List (List (List ℕ)) → List (List ℕ) → Option TraceCause
 words_fault [] words = if is_header words then None else Some Header
-words_fault (header ∷ earlier) words = said_fault (limits_of (version_of header)) (statements_of (has_version_2_lines (version_of header)) earlier) (statement_of (has_version_2_lines (version_of header)) words)
+words_fault (header ∷ earlier) words = said_fault (limits_of (version_of header)) (statements_of (version_of header) earlier) (statement_of (version_of header) words)
 
 -- a byte above 127
 abbrev pub is_high : ℕ → Bool
@@ -216,7 +239,7 @@ abbrev pub line_reference_fault : List (List (List ℕ)) → List ℕ → Option
 line_reference_fault [] line = None
 line_reference_fault (header ∷ body) line =
     if is_skipped (words_of line) then None
-    else reference_fault (statements_of (has_version_2_lines (version_of header)) body) (statement_of (has_version_2_lines (version_of header)) (words_of line))
+    else reference_fault (statements_of (version_of header) body) (statement_of (version_of header) (words_of line))
 
 -- no line by itself has a fault
 abbrev pub IsLineByLineFaultless : List ℕ → Type 0

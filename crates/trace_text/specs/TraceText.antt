@@ -1,5 +1,5 @@
 -- What a trace text spells.
-use Rattle.std.specs.Prelude.{◌≡◌, ◌≤◌, ◌↔◌, ℕ, Bool, true, false, not, List, [], ◌∷◌, ◌++◌, length, map, codes, ◌||◌, ◌==◌, nat_lt}
+use Rattle.std.specs.Prelude.{◌≡◌, ◌≤◌, ◌↔◌, ℕ, Bool, true, false, not, List, [], ◌∷◌, ◌++◌, length, map, Option, Some, None, is_some, codes, ◌||◌, ◌==◌, nat_lt}
 use Rattle.std.specs.Fmt.{decimal}
 use Rattle.std.specs.List.{filter, flat_map, list_any, Contains}
 use Rattle.std.specs.List.Sorted.{IsPermutation}
@@ -10,15 +10,17 @@ use Rattle.trace_semantics.specs.declared.operation.Op.TheVariants.{Read, Write,
 use Rattle.trace_semantics.specs.declared.operation.OpName.{OpName}
 use Rattle.trace_semantics.specs.declared.operation.Origin.{Origin}
 use Rattle.trace_semantics.specs.declared.operation.Origin.TheVariants.{Any, Initial, Operation}
+use Rattle.trace_semantics.specs.declared.operation.Span.{Span}
 use Rattle.trace_semantics.specs.declared.trace.Process.{Process}
 use Rattle.text_lines.specs.Kept.{kept}
 use Rattle.trace_semantics.specs.declared.limits.Limits.{Limits}
 use Rattle.trace_semantics.specs.declared.limits.Limits.TheVariants.{Small}
 use Rattle.trace_semantics.specs.Limits.{max_operations, max_locations, max_pairs}
+use Rattle.trace_semantics.specs.Operation.{span_of}
 use Rattle.trace_semantics.specs.Trace.{TraceValue, operation_count, location_count}
 use Rattle.trace_text.specs.declared.version.Version.{Version}
 use Rattle.trace_text.specs.declared.version.Version.TheVariants.{One, Two, Three}
-use Rattle.trace_text.specs.Version.{has_version_2_lines, limits_of}
+use Rattle.trace_text.specs.Version.{has_version_2_lines, has_times, limits_of}
 
 abbrev pub version_word : Version → List ℕ
 version_word One = codes "1"
@@ -45,11 +47,16 @@ origin_words Any = []
 origin_words Initial = codes "from" ∷ codes "init" ∷ []
 origin_words (Operation n) = codes "from" ∷ n.process ∷ decimal n.place ∷ []
 
+-- when an operation says that it was under way
+abbrev pub span_words : Option Span → List (List ℕ)
+span_words None = []
+span_words (Some span) = codes "at" ∷ decimal span.start ∷ decimal span.end ∷ []
+
 -- the words of the line of an operation
 abbrev pub op_line : Op → List (List ℕ)
-op_line (Read location value origin) = codes "R" ∷ location ∷ decimal value ∷ origin_words origin
-op_line (Write location value) = codes "W" ∷ location ∷ decimal value ∷ []
-op_line (Update location read left origin) = codes "U" ∷ location ∷ decimal read ∷ decimal left ∷ origin_words origin
+op_line (Read location value origin span) = codes "R" ∷ location ∷ decimal value ∷ (origin_words origin ++ span_words span)
+op_line (Write location value span) = codes "W" ∷ location ∷ decimal value ∷ span_words span
+op_line (Update location read left origin span) = codes "U" ∷ location ∷ decimal read ∷ decimal left ∷ (origin_words origin ++ span_words span)
 
 -- a process: its first line, and a line for each of its operations
 abbrev pub process_lines : Process → List (List (List ℕ))
@@ -70,19 +77,27 @@ is_process_line words = not (begins (codes "init") words || begins (codes "final
 
 -- an operation says where its value comes from
 abbrev pub has_origin : Op → Bool
-has_origin (Read location value Any) = false
-has_origin (Read location value origin) = true
-has_origin (Write location value) = false
-has_origin (Update location read left Any) = false
-has_origin (Update location read left origin) = true
+has_origin (Read location value Any span) = false
+has_origin (Read location value origin span) = true
+has_origin (Write location value span) = false
+has_origin (Update location read left Any span) = false
+has_origin (Update location read left origin span) = true
+
+-- an operation says when it was under way
+abbrev pub has_span : Op → Bool
+has_span op = is_some (span_of op)
+
+-- some operation does
+abbrev pub says_times : TraceValue → Bool
+says_times t = list_any (λ (p : Process). list_any has_span p.operations) t.processes
 
 -- the trace says what version 1 has no line for
 abbrev pub needs_version_2 : TraceValue → Bool
 needs_version_2 t = not (length t.before == 0) || list_any (λ (p : Process). list_any has_origin p.operations) t.processes
 
--- the trace is larger than versions 1 and 2 have room for
+-- the trace says times, for which versions 1 and 2 have no line, or is larger than they have room for
 abbrev pub needs_version_3 : TraceValue → Bool
-needs_version_3 t = nat_lt (max_operations Small) (operation_count t) || (nat_lt (max_pairs Small) (length t.before) || nat_lt (max_locations Small) (location_count t))
+needs_version_3 t = says_times t || (nat_lt (max_operations Small) (operation_count t) || (nat_lt (max_pairs Small) (length t.before) || nat_lt (max_locations Small) (location_count t)))
 
 -- the trace has no more operations and locations than these limits allow
 pub record FitsIn (limits : Limits) (t : TraceValue) : Type 0 where
@@ -103,4 +118,5 @@ pub record SpellsTrace (text : List ℕ) (t : TraceValue) : Type 0 where
   pub before : (words : List (List ℕ)) → Contains (filter (begins (codes "before")) body) words ↔ Contains (map before_line t.before) words
   pub few_before : length (filter (begins (codes "before")) body) ≤ max_pairs (limits_of version)
   pub lines_known : has_version_2_lines version ≡ false → needs_version_2 t ≡ false
+  pub times_known : has_times version ≡ false → says_times t ≡ false
   pub fits : FitsIn (limits_of version) t

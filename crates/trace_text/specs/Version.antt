@@ -11,6 +11,12 @@ has_version_2_lines One = false
 has_version_2_lines Two = true
 has_version_2_lines Three = true
 
+-- a line of a text of this version may say when an operation was under way
+abbrev pub has_times : Version → Bool
+has_times One = false
+has_times Two = false
+has_times Three = true
+
 -- the limits of a text of this version
 abbrev pub limits_of : Version → Limits
 limits_of One = Small

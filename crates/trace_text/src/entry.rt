@@ -1,20 +1,21 @@
 //! What a line of a trace text adds to the trace.
 
 ghost use Rattle.std.specs.Prelude.{◌≡◌, ◌<◌, ◌^◌, ◌&&◌, true, decimal, is_some, IfOk, IfErr, IfSome, Some, None, if◌then◌else◌};
-ghost use Rattle.trace_text.specs.Entry.{source_of, statement_for, op_statement, has_numbers, has_place, number_fault, fits_value, fits_place, origin_fits, op_fits, entry_fits};
+ghost use Rattle.trace_text.specs.Entry.{source_of, times_said, statement_for, op_statement, has_numbers, has_place, has_time_numbers, number_fault, fits_value, fits_place, origin_fits, span_fits, op_fits, entry_fits};
+ghost use Rattle.trace_text.specs.Entry as entry_spec;
 ghost use Rattle.text_lines.specs.PlainFault.{IsRefusedFor};
-ghost use Rattle.trace_text.specs.Said.{said, said_source};
+ghost use Rattle.trace_text.specs.Said.{said, said_source, said_times};
 ghost use Rattle.trace_text.specs.Statement.{Read, Write, Update, Before};
 ghost use Rattle.trace_text.specs.TraceFault.{is_value, is_place};
 
-use crate::statement::{ReadsFrom, Statement};
+use crate::statement::{ReadsFrom, Statement, TimesSaid};
 use crate::trace_fault::{LineRefusal, TraceCause};
 use std::alloc::Global;
 use text_lines::numbers::read_plain;
 use text_lines::plain_fault::PlainFault;
 use trace_semantics::limits::Limits;
 use trace_semantics::name::Name;
-use trace_semantics::operation::{Op, OpName, Origin};
+use trace_semantics::operation::{Op, OpName, Origin, Span};
 use trace_semantics::place::read_place;
 
 /// What a line adds to the trace.
@@ -105,6 +106,27 @@ fn read_origin(alloc: Global, limits: Limits, source: ReadsFrom<'_>) -> Result<O
     }
 }
 
+/// The span of an operation.
+fn read_span(times: TimesSaid<'_>) -> Result<Option<Span>, LineRefusal>
+    ensures refused { IfErr result (IsRefusedFor (number_fault (has_time_numbers (said_times times.entry)))) }
+    ensures fine { IfOk result (λ _. has_time_numbers (said_times times.entry) ≡ true) }
+    ensures times { IfOk result (λ span. times_said span ≡ said_times times.entry) }
+    ensures fits { IfOk result (λ span. span_fits span ≡ true) }
+{
+    match times {
+        TimesSaid::Untimed => Ok(None),
+        TimesSaid::At(start, end) => {
+            let Some(start) = read_value(start) else {
+                return Err(PlainFault::For(TraceCause::BadNumber));
+            };
+            let Some(end) = read_value(end) else {
+                return Err(PlainFault::For(TraceCause::BadNumber));
+            };
+            Ok(Some(Span { start, end }))
+        }
+    }
+}
+
 /// Gives what the line of a plain read adds.
 fn read_read(
     alloc: Global,
@@ -112,17 +134,21 @@ fn read_read(
     location: &[u8],
     value: &[u8],
     source: ReadsFrom<'_>,
+    times: TimesSaid<'_>,
 ) -> Result<Op, LineRefusal>
-    ensures refused { IfErr result (IsRefusedFor (number_fault (has_numbers limits (Read location.now value.now (said_source source.entry))))) }
-    ensures fine { IfOk result (λ _. has_numbers limits (Read location.now value.now (said_source source.entry)) ≡ true) }
-    ensures said { IfOk result (λ op. op_statement op ≡ Read location.now value.now (said_source source.entry)) }
+    ensures refused { IfErr result (IsRefusedFor (number_fault (has_numbers limits (Read location.now value.now (said_source source.entry) (said_times times.entry))))) }
+    ensures fine { IfOk result (λ _. has_numbers limits (Read location.now value.now (said_source source.entry) (said_times times.entry)) ≡ true) }
+    ensures said { IfOk result (λ op. op_statement op ≡ Read location.now value.now (said_source source.entry) (said_times times.entry)) }
     ensures fits { IfOk result (λ op. op_fits op ≡ true) }
 {
     let (location, value) = read_located(alloc, location, value)?;
+    let origin = read_origin(alloc, limits, source)?;
+    let span = read_span(times)?;
     Ok(Op::Read {
         location,
         value,
-        origin: read_origin(alloc, limits, source)?,
+        origin,
+        span,
     })
 }
 
@@ -134,21 +160,25 @@ fn read_update(
     read: &[u8],
     left: &[u8],
     source: ReadsFrom<'_>,
+    times: TimesSaid<'_>,
 ) -> Result<Op, LineRefusal>
-    ensures refused { IfErr result (IsRefusedFor (number_fault (has_numbers limits (Update location.now read.now left.now (said_source source.entry))))) }
-    ensures fine { IfOk result (λ _. has_numbers limits (Update location.now read.now left.now (said_source source.entry)) ≡ true) }
-    ensures said { IfOk result (λ op. op_statement op ≡ Update location.now read.now left.now (said_source source.entry)) }
+    ensures refused { IfErr result (IsRefusedFor (number_fault (has_numbers limits (Update location.now read.now left.now (said_source source.entry) (said_times times.entry))))) }
+    ensures fine { IfOk result (λ _. has_numbers limits (Update location.now read.now left.now (said_source source.entry) (said_times times.entry)) ≡ true) }
+    ensures said { IfOk result (λ op. op_statement op ≡ Update location.now read.now left.now (said_source source.entry) (said_times times.entry)) }
     ensures fits { IfOk result (λ op. op_fits op ≡ true) }
 {
     let Some(read) = read_value(read) else {
         return Err(PlainFault::For(TraceCause::BadNumber));
     };
     let (location, left) = read_located(alloc, location, left)?;
+    let origin = read_origin(alloc, limits, source)?;
+    let span = read_span(times)?;
     Ok(Op::Update {
         location,
         read,
         left,
-        origin: read_origin(alloc, limits, source)?,
+        origin,
+        span,
     })
 }
 
@@ -158,14 +188,20 @@ fn read_write(
     limits: Limits,
     location: &[u8],
     value: &[u8],
+    times: TimesSaid<'_>,
 ) -> Result<Op, LineRefusal>
-    ensures refused { IfErr result (IsRefusedFor (number_fault (has_numbers limits (Write location.now value.now)))) }
-    ensures fine { IfOk result (λ _. has_numbers limits (Write location.now value.now) ≡ true) }
-    ensures said { IfOk result (λ op. op_statement op ≡ Write location.now value.now) }
+    ensures refused { IfErr result (IsRefusedFor (number_fault (has_numbers limits (Write location.now value.now (said_times times.entry))))) }
+    ensures fine { IfOk result (λ _. has_numbers limits (Write location.now value.now (said_times times.entry)) ≡ true) }
+    ensures said { IfOk result (λ op. op_statement op ≡ Write location.now value.now (said_times times.entry)) }
     ensures fits { IfOk result (λ op. op_fits op ≡ true) }
 {
     let (location, value) = read_located(alloc, location, value)?;
-    Ok(Op::Write { location, value })
+    let span = read_span(times)?;
+    Ok(Op::Write {
+        location,
+        value,
+        span,
+    })
 }
 
 /// The operations that a `before` line names.
@@ -208,17 +244,37 @@ pub fn read_entry(
             Ok(Entry::Final(location, value))
         }
         Statement::Proc(name) => Ok(Entry::Process(Name::copy_of(alloc, name)?)),
-        Statement::Read(location, value, source) => {
-            Ok(Entry::Operation(read_read(alloc, limits, location, value, source)?))
-        }
-        Statement::Write(location, value) => {
-            Ok(Entry::Operation(read_write(alloc, limits, location, value)?))
-        }
-        Statement::Update(location, read, left, source) => {
-            Ok(Entry::Operation(read_update(alloc, limits, location, read, left, source)?))
-        }
+        Statement::Read(location, value, source, times) => Ok(Entry::Operation(read_read(
+            alloc, limits, location, value, source, times,
+        )?)),
+        Statement::Write(location, value, times) => Ok(Entry::Operation(read_write(
+            alloc, limits, location, value, times,
+        )?)),
+        Statement::Update(location, read, left, source, times) => Ok(Entry::Operation(read_update(
+            alloc, limits, location, read, left, source, times,
+        )?)),
         Statement::Before(process, place, other, other_place) => {
             read_pair(alloc, limits, process, place, other, other_place)
         }
+    }
+}
+
+/// Returns whether the span, if there is one, ends before it starts.
+fn is_turned_span(span: Option<Span>) -> bool
+    ensures { result ≡ entry_spec.is_turned_span span }
+{
+    match span {
+        Some(span) => span.end < span.start,
+        None => false,
+    }
+}
+
+/// Returns whether a line adds an operation that ends before it starts.
+pub fn is_turned(entry: &Entry) -> bool
+    ensures { result ≡ entry_spec.is_turned entry.now }
+{
+    match entry {
+        Entry::Operation(op) => is_turned_span(op.span()),
+        _ => false,
     }
 }

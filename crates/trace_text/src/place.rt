@@ -22,7 +22,7 @@ fn is_of_operation(statement: Statement<'_>) -> bool
 {
     matches!(
         statement,
-        Statement::Read(_, _, _) | Statement::Write(_, _) | Statement::Update(_, _, _, _)
+        Statement::Read(_, _, _, _) | Statement::Write(_, _, _) | Statement::Update(_, _, _, _, _)
     )
 }
 
@@ -44,9 +44,11 @@ fn is_named(statement: Statement<'_>) -> bool
         Statement::Init(location, _) => is_name_word(location),
         Statement::Final(location, _) => is_name_word(location),
         Statement::Proc(name) => is_name_word(name),
-        Statement::Read(location, _, source) => is_name_word(location) && source_is_named(source),
-        Statement::Write(location, _) => is_name_word(location),
-        Statement::Update(location, _, _, source) => {
+        Statement::Read(location, _, source, _) => {
+            is_name_word(location) && source_is_named(source)
+        }
+        Statement::Write(location, _, _) => is_name_word(location),
+        Statement::Update(location, _, _, source, _) => {
             is_name_word(location) && source_is_named(source)
         }
         Statement::Before(process, _, other, _) => is_name_word(process) && is_name_word(other),

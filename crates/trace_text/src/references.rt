@@ -10,7 +10,6 @@ ghost use Rattle.trace_text.specs.References.{is_of, is_among, fault_of_referenc
 ghost use Rattle.trace_text.specs.Said.{said, said_source};
 ghost use Rattle.trace_semantics.specs.Place.{place_of};
 ghost use Rattle.trace_text.specs.TraceFault.{references_of, references_of_source, is_before_itself};
-ghost use Rattle.trace_text.specs.Version.{has_version_2_lines};
 
 use crate::statement::{ReadsFrom, Statement, read_statement};
 use crate::trace_fault::{LineRefusal, TraceCause, TraceFault};
@@ -62,8 +61,8 @@ fn all_are_known(processes: &[Process], statement: Statement<'_>) -> bool
     ensures { result ≡ list_all (is_among processes.now) (references_of (said statement.entry)) }
 {
     match statement {
-        Statement::Read(_, _, source) => source_is_known(processes, source),
-        Statement::Update(_, _, _, source) => source_is_known(processes, source),
+        Statement::Read(_, _, source, _) => source_is_known(processes, source),
+        Statement::Update(_, _, _, source, _) => source_is_known(processes, source),
         Statement::Before(process, place, other, other_place) => {
             has_operation(processes, process, place) && has_operation(processes, other, other_place)
         }
@@ -99,8 +98,8 @@ fn fault_of_names(processes: &[Process], statement: Statement<'_>) -> Result<(),
 
 /// Checks the operations that a line names.
 fn check_line(version: Version, processes: &[Process], line: &[u8]) -> Result<(), LineRefusal>
-    ensures refused { IfErr result (IsRefusedFor (fault_of_line (has_version_2_lines version) processes.now line.now)) }
-    ensures fine { OnOk result (fault_of_line (has_version_2_lines version) processes.now line.now ≡ None) }
+    ensures refused { IfErr result (IsRefusedFor (fault_of_line version processes.now line.now)) }
+    ensures fine { OnOk result (fault_of_line version processes.now line.now ≡ None) }
 {
     let words = first_words(line);
     if is_skipped_line(words.as_slice()) {
@@ -114,8 +113,8 @@ fn check_line(version: Version, processes: &[Process], line: &[u8]) -> Result<()
 
 /// Checks the operations that each line of a text names.
 fn check_lines(version: Version, processes: &[Process], text: &[u8]) -> Result<(), TraceFault>
-    ensures refused { IfErr result (IsRefusedByReferences (has_version_2_lines version) processes.now text.now) }
-    ensures fine { OnOk result (IsFaultless (λ (before : List (List ℕ)) (here : List ℕ). fault_of_line (has_version_2_lines version) processes.now here) (lines_of text.now)) }
+    ensures refused { IfErr result (IsRefusedByReferences version processes.now text.now) }
+    ensures fine { OnOk result (IsFaultless (λ (before : List (List ℕ)) (here : List ℕ). fault_of_line version processes.now here) (lines_of text.now)) }
 {
     let mut rest = text;
     let mut next = 1usize;
@@ -136,8 +135,8 @@ pub fn check_references(
     processes: &[Process],
     text: &[u8],
 ) -> Result<(), TraceFault>
-    ensures refused { IfErr result (IsRefusedByReferences (has_version_2_lines version) processes.now text.now) }
-    ensures fine { OnOk result (IsFaultless (λ (before : List (List ℕ)) (here : List ℕ). fault_of_line (has_version_2_lines version) processes.now here) (lines_of text.now)) }
+    ensures refused { IfErr result (IsRefusedByReferences version processes.now text.now) }
+    ensures fine { OnOk result (IsFaultless (λ (before : List (List ℕ)) (here : List ℕ). fault_of_line version processes.now here) (lines_of text.now)) }
 {
     if !version.has_version_2_lines() {
         return Ok(());

@@ -1,7 +1,7 @@
 //! What must be known of the earlier lines of a trace text to judge the next one.
 //!
 //! In the contracts `Notes` says too that the earlier lines make no fault of the new one, and `IsRefusedFor` for which fault it is refused.
-//! Values and places are not looked at here, so `[]` stands for any, and `Write` for each operation.
+//! Values, places and times are not looked at here, so `[]` stands for any, and an untimed `Write` for each operation.
 
 ghost use Rattle.std.specs.Prelude.{◌≡◌, ◌≤◌, [], List, ℕ, Some, None, false, OnOk, IfErr};
 ghost use Rattle.trace_semantics.specs.declared.limits.Limits.{Limits as Of};
@@ -9,7 +9,7 @@ ghost use Rattle.trace_semantics.specs.Limits.{max_operations, max_locations, ma
 ghost use Rattle.trace_semantics.specs.NameNumbers.{number_of};
 ghost use Rattle.text_lines.specs.PlainFault.{IsRefusedFor};
 ghost use Rattle.trace_text.specs.Said.{said};
-ghost use Rattle.trace_text.specs.Statement.{Init, Final, Proc, Write, Before};
+ghost use Rattle.trace_text.specs.Statement.{Untimed, Init, Final, Proc, Write, Before};
 ghost use Rattle.trace_text.specs.Seen.{has, IsSeen, Notes, NotesLocation, fault_behind, fault_of_location, fault_of_operation};
 
 use crate::statement::Statement;
@@ -141,8 +141,8 @@ impl<'a> Seen<'a> {
     /// Notes that a line is an operation on this location, and refuses one too many.
     fn note_operation(&mut self, limits: Limits, location: &'a [u8]) -> Result<(), LineRefusal>
         requires { self.old.location_count ≤ max_locations limits }
-        ensures refused { IfErr result (IsRefusedFor (fault_behind limits self.old (Write location.now []))) }
-        ensures noted { OnOk result (Notes limits self.old self.new (Write location.now [])) }
+        ensures refused { IfErr result (IsRefusedFor (fault_behind limits self.old (Write location.now [] Untimed))) }
+        ensures noted { OnOk result (Notes limits self.old self.new (Write location.now [] Untimed)) }
     {
         if self.operation_count >= limits.max_operations() {
             return Err(PlainFault::For(TraceCause::TooManyOps));
@@ -174,9 +174,9 @@ impl<'a> Seen<'a> {
             Statement::Init(location, _) => self.note_initial(limits, location),
             Statement::Final(location, _) => self.note_final(limits, location),
             Statement::Proc(name) => self.note_process(limits, name),
-            Statement::Read(location, _, _) => self.note_operation(limits, location),
-            Statement::Write(location, _) => self.note_operation(limits, location),
-            Statement::Update(location, _, _, _) => self.note_operation(limits, location),
+            Statement::Read(location, _, _, _) => self.note_operation(limits, location),
+            Statement::Write(location, _, _) => self.note_operation(limits, location),
+            Statement::Update(location, _, _, _, _) => self.note_operation(limits, location),
             Statement::Before(_, _, _, _) => self.note_before(limits),
         }
     }

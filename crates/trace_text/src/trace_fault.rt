@@ -38,6 +38,8 @@ pub enum TraceCause {
     BeforeItself,
     /// The 4,097th `before` line, in version 3 the 4,194,305th.
     TooManyBefore,
+    /// The end of an operation is below its start.
+    EndsBeforeStart,
 }
 
 /// Why a text is not read as a trace: its first fault and its line, counted from 1, or that memory ran out.
@@ -71,6 +73,7 @@ impl FaultCause for TraceCause {
             TraceCause::NoSuchOp => 15,
             TraceCause::BeforeItself => 16,
             TraceCause::TooManyBefore => 17,
+            TraceCause::EndsBeforeStart => 18,
         }
     }
 
@@ -92,6 +95,7 @@ impl FaultCause for TraceCause {
             TraceCause::NoSuchOp => "NoSuchOp",
             TraceCause::BeforeItself => "BeforeItself",
             TraceCause::TooManyBefore => "TooManyBefore",
+            TraceCause::EndsBeforeStart => "EndsBeforeStart",
         }
     }
 }

@@ -9,12 +9,12 @@ ghost use Rattle.trace_text.specs.Said.{said};
 ghost use Rattle.trace_text.specs.Statement.{Statement as Said, statement_of};
 ghost use Rattle.trace_text.specs.TraceFault.{statement_fault, said_fault, trace_line_fault, HasTraceFault};
 ghost use Rattle.trace_text.specs.TraceText.{SpellsTrace};
-ghost use Rattle.trace_text.specs.Version.{has_version_2_lines, limits_of};
+ghost use Rattle.trace_text.specs.Version.{limits_of};
 ghost use Rattle.trace_semantics.specs.declared.limits.Limits.{Limits as Of};
 ghost use Rattle.trace_semantics.specs.Limits.{max_locations};
 ghost use Rattle.trace_semantics.specs.Trace.{IsTrace};
 
-use crate::entry::read_entry;
+use crate::entry::{is_turned, read_entry};
 use crate::header::{Header, read_header};
 use crate::line::has_high_byte;
 use crate::place::fault_of_place;
@@ -65,6 +65,9 @@ impl<'a> TraceReader<'a> {
             return Err(PlainFault::For(cause));
         }
         let entry = read_entry(alloc, limits, statement)?;
+        if is_turned(&entry) {
+            return Err(PlainFault::For(TraceCause::EndsBeforeStart));
+        }
         self.seen.take(limits, statement)?;
         self.gathered.add(alloc, entry)
     }
@@ -78,7 +81,7 @@ impl<'a> TraceReader<'a> {
     ) -> Result<(), LineRefusal>
         requires { self.old.seen.location_count ≤ max_locations (limits_of version) }
         ensures refused { IfErr result (λ refusal. (ss : List Said) → IsProgress (limits_of version) ss self.old →
-            IsRefusedFor (said_fault (limits_of version) ss (statement_of (has_version_2_lines version) (map (λ word. word.now) words.now))) refusal) }
+            IsRefusedFor (said_fault (limits_of version) ss (statement_of version (map (λ word. word.now) words.now))) refusal) }
         ensures taken { OnOk result ((ss : List Said) → IsProgress (limits_of version) ss self.old → TakesWords version ss (map (λ word. word.now) words.now) self.new) }
     {
         match read_statement(version, words) {

@@ -14,7 +14,7 @@ use itoa::Buffer;
 use std::alloc::{AllocError, Global};
 use trace_semantics::limits::Limits;
 use trace_semantics::name::Name;
-use trace_semantics::operation::{Op, OpName, Origin};
+use trace_semantics::operation::{Op, OpName, Origin, Span};
 use trace_semantics::trace::{Process, Trace};
 use trace_semantics::trace_size::count_operations;
 
@@ -60,10 +60,32 @@ fn wants_version_2(trace: &Trace) -> bool
     !trace.before().is_empty() || any_says_origin(trace.processes())
 }
 
-/// Returns whether the trace is larger than versions 1 and 2 have room for.
+fn says_span(op: &Op) -> bool
+    ensures { result ≡ spelled.has_span op.now }
+{
+    op.span().is_some()
+}
+
+fn process_says_span(process: &Process) -> bool
+    ensures { result ≡ list_any spelled.has_span process.now.operations }
+{
+    process.operations.as_slice().iter().any(|op| says_span(op))
+}
+
+/// Returns whether it is said of an operation when it was under way.
+fn any_says_span(processes: &[Process]) -> bool
+    ensures { result ≡ list_any (λ (p : Process). list_any spelled.has_span p.operations) processes.now }
+{
+    processes.iter().any(|process| process_says_span(process))
+}
+
+/// Returns whether the trace says times, or is larger than versions 1 and 2 have room for.
 fn wants_version_3(alloc: Global, trace: &Trace) -> Result<bool, AllocError>
     ensures { IfOk result (λ wants. wants ≡ spelled.needs_version_3 trace.now) }
 {
+    if any_says_span(trace.processes()) {
+        return Ok(true);
+    }
     if count_operations(trace) > Limits::Small.max_operations() {
         return Ok(true);
     }
@@ -129,6 +151,32 @@ fn push_origin(text: &mut Vec<u8>, origin: &Origin) -> Result<(), AllocError>
     }
 }
 
+/// Appends the words that say when an operation was under way.
+fn push_span(text: &mut Vec<u8>, span: Option<Span>) -> Result<(), AllocError>
+    ensures { OnOk result (text.new.items ≡ text.old.items ++ flat_map spaced (spelled.span_words span)) }
+{
+    match span {
+        None => Ok(()),
+        Some(span) => {
+            text.extend_from_slice(b" at")?;
+            push_number(text, span.start)?;
+            push_number(text, span.end)
+        }
+    }
+}
+
+/// Appends the words of where a value comes from and when the operation was under way.
+fn push_last_words(
+    text: &mut Vec<u8>,
+    origin: &Origin,
+    span: Option<Span>,
+) -> Result<(), AllocError>
+    ensures { OnOk result (text.new.items ≡ text.old.items ++ flat_map spaced (spelled.origin_words origin.now ++ spelled.span_words span)) }
+{
+    push_origin(text, origin)?;
+    push_span(text, span)
+}
+
 /// Appends the first words of a line: its key, a location and a value.
 fn push_entry(text: &mut Vec<u8>, key: &[u8], location: &Name, value: u64) -> Result<(), AllocError>
     ensures { OnOk result (text.new.items ≡ text.old.items ++ key.now ++ 32 ∷ location.now ++ 32 ∷ decimal value) }
@@ -147,20 +195,29 @@ fn push_op_words(text: &mut Vec<u8>, op: &Op) -> Result<(), AllocError>
             location,
             value,
             origin,
+            span,
         } => {
             push_entry(text, b"R", location, *value)?;
-            push_origin(text, origin)
+            push_last_words(text, origin, *span)
         }
-        Op::Write { location, value } => push_entry(text, b"W", location, *value),
+        Op::Write {
+            location,
+            value,
+            span,
+        } => {
+            push_entry(text, b"W", location, *value)?;
+            push_span(text, *span)
+        }
         Op::Update {
             location,
             read,
             left,
             origin,
+            span,
         } => {
             push_entry(text, b"U", location, *read)?;
             push_number(text, *left)?;
-            push_origin(text, origin)
+            push_last_words(text, origin, *span)
         }
     }
 }

@@ -1,7 +1,7 @@
 //! The versions of trace texts.
 
 ghost use Rattle.std.specs.Prelude.{◌≡◌};
-ghost use Rattle.trace_text.specs.Version.{has_version_2_lines, limits_of};
+ghost use Rattle.trace_text.specs.Version.{has_version_2_lines, has_times, limits_of};
 
 use trace_semantics::limits::Limits;
 
@@ -12,7 +12,7 @@ pub enum Version {
     One,
     /// Known orders and known sources too.
     Two,
-    /// The same lines, and more of them.
+    /// Times too, and more lines.
     Three,
 }
 
@@ -22,6 +22,13 @@ impl Version {
         ensures { result ≡ has_version_2_lines self }
     {
         matches!(self, Version::Two | Version::Three)
+    }
+
+    /// Returns whether a line of the text may say when an operation was under way.
+    pub fn has_times(self) -> bool
+        ensures { result ≡ has_times self }
+    {
+        matches!(self, Version::Three)
     }
 
     /// Returns the limits of such texts.

@@ -1,4 +1,5 @@
 pub mod BoundLemmas
+pub mod KnownPairs
 pub mod LayoutLemmas
 pub mod ListLemmas
 pub mod NumberLemmas

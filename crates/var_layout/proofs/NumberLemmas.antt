@@ -1,16 +1,15 @@
 -- The number of an operation that has a name.
 use Rattle.std.proofs.Common.{◌≡◌, ◌<◌, ◌≤◌, ℕ, [], length, get_or, true, false, refl, ap, sym, ◌∙◌, arith}
-use Rattle.std.specs.Prelude.{◌≢◌, Some, IsSome}
-use Rattle.std.specs.List.{Contains, find, slice_get}
+use Rattle.std.specs.Prelude.{Some, IsSome}
+use Rattle.std.specs.List.{find, slice_get}
 use Rattle.std.proofs.lemmas.List.{length-map}
-use Rattle.std.proofs.lemmas.List.Elements.{All-contains}
 use Rattle.std.proofs.lemmas.List.Folds.{find_at}
 use Rattle.std.proofs.lemmas.List.Sums.{position_or_len_is}
 use Rattle.std.proofs.lemmas.Option.{slice_get-get_or, slice_get_within}
 use Rattle.trace_semantics.specs.declared.operation.OpName.{OpName}
 use Rattle.trace_semantics.specs.Judgement.{is_the_op}
 use Rattle.trace_semantics.specs.Operation.{same_op}
-use Rattle.trace_semantics.specs.Trace.{TraceValue, IsTrace, operation_at, operation_names, operation_count}
+use Rattle.trace_semantics.specs.Trace.{TraceValue, operation_at, operation_names, operation_count}
 use Rattle.trace_semantics.proofs.NameLemmas.{same_name, name_same, known_listed, name_turned}
 use Rattle.trace_semantics.proofs.ElementLemmas.{finds}
 use Rattle.var_layout.specs.Numbered.{NumberedOp, numbered}
@@ -51,11 +50,3 @@ known_number t n known =
     let there : slice_get names (number_of t n) ≡ Some n = sym (find_at (same_op n) names) ∙ found in
     let within = slice_get_within names (number_of t n) n there in
     record { within = omega (arith, within, names_counted t); named = there }
-
-pub pairs_apart : (t : TraceValue) → IsTrace t → (pair : OpName × OpName) → Contains t.before pair → (number_of t pair.0 < operation_count t) × (number_of t pair.1 < operation_count t) × (number_of t pair.0 ≢ number_of t pair.1)
-pairs_apart t ok pair c =
-    let known = All-contains (λ (p : OpName × OpName). IsSome (operation_at t p.0) × IsSome (operation_at t p.1)) t.before pair ok.known c in
-    let apart = All-contains (λ (p : OpName × OpName). p.0 ≢ p.1) t.before pair ok.before_apart c in
-    let first = known_number t pair.0 known.0 in
-    let second = known_number t pair.1 known.1 in
-    (first.within, second.within, λ e. apart (let same : Some pair.0 ≡ Some pair.1 = sym first.named ∙ ap (name_at t) e ∙ second.named in cc))

@@ -1,6 +1,7 @@
 pub mod Candidates
 pub mod ChoiceVariables
 pub mod FinalVariables
+pub mod KnownPairs
 pub mod Numbered
 pub mod Numbers
 pub mod OrderVariables

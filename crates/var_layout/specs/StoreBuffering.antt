@@ -1,5 +1,5 @@
 -- Store buffering, as an example.
-use Rattle.std.specs.Prelude.{ℕ, [], ◌∷◌, codes}
+use Rattle.std.specs.Prelude.{ℕ, [], ◌∷◌, None, codes}
 use Rattle.trace_semantics.specs.declared.operation.Op.TheVariants.{Read, Write}
 use Rattle.trace_semantics.specs.declared.operation.Origin.TheVariants.{Any}
 use Rattle.trace_semantics.specs.declared.trace.Process.{Process}
@@ -8,10 +8,10 @@ use Rattle.var_layout.specs.declared.candidate.Candidate.TheVariants.{InitialVal
 use Rattle.var_layout.specs.declared.candidate.ReadsFromChoice.{ReadsFromChoice}
 
 abbrev pub first_process : Process
-first_process = record { name = codes "P"; operations = Write (codes "x") 1 ∷ Read (codes "y") 0 Any ∷ [] }
+first_process = record { name = codes "P"; operations = Write (codes "x") 1 None ∷ Read (codes "y") 0 Any None ∷ [] }
 
 abbrev pub second_process : Process
-second_process = record { name = codes "Q"; operations = Write (codes "y") 1 ∷ Read (codes "x") 0 Any ∷ [] }
+second_process = record { name = codes "Q"; operations = Write (codes "y") 1 None ∷ Read (codes "x") 0 Any None ∷ [] }
 
 -- each of two processes writes one location and then reads the initial value of the other's
 abbrev pub store_buffering : TraceValue

@@ -8,7 +8,8 @@ use Rattle.var_layout.specs.declared.candidate.ReadsFromChoice.{ReadsFromChoice}
 use Rattle.var_layout.specs.declared.candidate.FinalChoice.{FinalChoice}
 use Rattle.var_layout.specs.ChoiceVariables.{choices, void_choice}
 use Rattle.var_layout.specs.FinalVariables.{final_choices, finals, void_of, void_final, variable_count}
-use Rattle.var_layout.specs.Numbers.{numbers, name_at, number_of, read_at, writers, other_writers, in_one_process}
+use Rattle.var_layout.specs.KnownPairs.{known_pairs}
+use Rattle.var_layout.specs.Numbers.{numbers, name_at, read_at, writers, other_writers, in_one_process}
 
 -- of an operation: the first one of its process, whether it reads, its other writers, its choices and its void variable
 pub record OpTableValue : Type 0 where
@@ -46,15 +47,11 @@ final_writers t k = option_map_or (λ (entry : List ℕ × ℕ). writers t entry
 abbrev pub final_table : TraceValue → ℕ → FinalTableValue
 final_table t k = record { writers = final_writers t k; choices = finals t k; void = void_final t k }
 
--- the numbers of both operations of a pair
-abbrev pub numbers_of : TraceValue → OpName × OpName → ℕ × ℕ
-numbers_of t pair = (number_of t pair.0, number_of t pair.1)
-
 -- the tables of a layout are those of its trace, which has 160 operations at most
 pub record IsLayout (t : TraceValue) (ops : List OpTableValue) (ends : List FinalTableValue) (pairs : List (ℕ × ℕ)) (last : ℕ) : Type 0 where
   pub is_trace : IsTrace t
   pub few : operation_count t ≤ 160
   pub operations : ops ≡ map (op_table t) (numbers t)
   pub final_values : ends ≡ map (final_table t) (range_with_len 0 (length t.final_values))
-  pub before : pairs ≡ map (numbers_of t) t.before
+  pub before : pairs ≡ known_pairs t
   pub count : last ≡ variable_count t

@@ -3,13 +3,15 @@
 //! A law's body is empty, or calls other laws: what it says is proved in the folder of its name in `proofs/laws`, or needs no
 //! answer. Who calls it has what it says in proofs; the call does nothing when run.
 
-ghost use Rattle.std.specs.Prelude.{◌≡◌, ◌≢◌, ◌<◌, ℕ, List, [], ◌∷◌, Some, None, IsSome, IsTrue};
+ghost use Rattle.std.specs.Prelude.{◌≡◌, ◌≢◌, ◌<◌, ◌⊎◌, ℕ, List, [], ◌∷◌, map, Some, None, IsSome, IsTrue};
 ghost use Rattle.std.specs.List.{Contains};
 ghost use Rattle.dimacs.specs.Literal.{is_literal_up_to};
 ghost use Rattle.trace_semantics.specs.declared.operation.OpName.{OpName};
+ghost use Rattle.trace_semantics.specs.KnownOrder.{HasNoTimes, IsKnownBefore};
 ghost use Rattle.trace_semantics.specs.Trace.{TraceValue, IsTrace, operation_at, operation_count};
 ghost use Rattle.var_layout.specs.ChoiceVariables.{choices, void_choice};
 ghost use Rattle.var_layout.specs.FinalVariables.{finals, void_final, variable_count};
+ghost use Rattle.var_layout.specs.KnownPairs.{known_pairs, numbers_of};
 ghost use Rattle.var_layout.specs.Numbers.{name_at, number_of, writers, other_writers};
 ghost use Rattle.var_layout.specs.OrderVariables.{order_count, order_var, order_lit};
 ghost use Rattle.var_layout.specs.Split.{splits};
@@ -49,7 +51,19 @@ pub fn writers_are_operations()
     ensures others { (t : TraceValue) (i w : ℕ) → Contains (other_writers t i) w → (w < operation_count t) × (w ≢ i) }
 {}
 
-/// Both names of a before pair are of operations of the trace, and these are two.
-pub fn before_pairs_are_apart()
-    ensures { (t : TraceValue) → IsTrace t → (pair : OpName × OpName) → Contains t.before pair → (number_of t pair.0 < operation_count t) × (number_of t pair.1 < operation_count t) × (number_of t pair.0 ≢ number_of t pair.1) }
+/// If the trace says that an operation stands before another, the pair of their numbers is known, or program order says so already. What is
+/// known the trace says.
+pub fn known_pairs_say_the_order()
+    ensures listed { (t : TraceValue) (m n : OpName) → IsTrace t → IsKnownBefore t m n → Contains (known_pairs t) (number_of t m, number_of t n) ⊎ ((m.process ≡ n.process) × (m.place < n.place)) }
+    ensures known { (t : TraceValue) (i j : ℕ) → IsTrace t → Contains (known_pairs t) (i, j) → (m : OpName) × (n : OpName) × (name_at t i ≡ Some m) × (name_at t j ≡ Some n) × IsKnownBefore t m n }
+{}
+
+/// Both numbers of a known pair are of operations of the trace, and these are two.
+pub fn known_pairs_are_apart()
+    ensures { (t : TraceValue) → IsTrace t → (pair : ℕ × ℕ) → Contains (known_pairs t) pair → (pair.0 < operation_count t) × (pair.1 < operation_count t) × (pair.0 ≢ pair.1) }
+{}
+
+/// If no operation has a span, the known pairs are the before pairs.
+pub fn known_pairs_without_times()
+    ensures { (t : TraceValue) → IsTrace t → HasNoTimes t → known_pairs t ≡ map (numbers_of t) t.before }
 {}

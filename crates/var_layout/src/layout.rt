@@ -3,10 +3,10 @@
 ghost use Rattle.std.specs.Prelude.{◌≡◌, ◌≢◌, ◌<◌, ◌≤◌, ℕ, List, [], length, map, take, is_some, IsSome, IfOk, slice_get, false};
 ghost use Rattle.std.specs.Option.{option_and_then, option_copied, option_map, option_map_or};
 ghost use Rattle.dimacs.specs.Assignment.{makes_true, value_of};
-ghost use Rattle.trace_semantics.specs.declared.operation.OpName.{OpName};
 ghost use Rattle.trace_semantics.specs.Trace.{IsTrace, operation_count};
 ghost use Rattle.var_layout.specs.ChoiceVariables as choice_variables;
 ghost use Rattle.var_layout.specs.FinalVariables as final_variables;
+ghost use Rattle.var_layout.specs.KnownPairs.{known_pairs};
 ghost use Rattle.var_layout.specs.Numbers as numbers;
 ghost use Rattle.var_layout.specs.OrderVariables as order;
 ghost use Rattle.var_layout.specs.Split as split;
@@ -14,10 +14,10 @@ ghost use Rattle.var_layout.specs.Tables as tables;
 ghost use Rattle.var_layout.specs.Tables.{OpTableValue, FinalTableValue};
 ghost use Rattle.var_layout.specs.VoidVariables.{void_variable};
 
-use crate::before_numbers::before_numbers;
 use crate::candidate::{FinalChoice, ReadsFromChoice};
 use crate::choice_variables::{OpVariables, op_tables};
 use crate::final_variables::{FinalTable, final_tables};
+use crate::known_pairs::known_pairs;
 use crate::numbering::Numbering;
 use crate::order_literal::order_lit;
 use crate::split_variables::{all_splits, push_first_splits};
@@ -82,7 +82,7 @@ impl Layout {
         numbering.recall_invariant();
         let (operations, next) = op_tables(alloc, &numbering, trace)?;
         let (final_values, next) = final_tables(alloc, &numbering, trace, next)?;
-        let before = before_numbers(alloc, &numbering, trace.before())?;
+        let before = known_pairs(alloc, &numbering, trace)?;
         Ok(Layout {
             trace: Snapshot::of(trace),
             operations,
@@ -243,9 +243,10 @@ impl Layout {
         }
     }
 
-    /// The numbers of the operations of each before pair.
+    /// The pairs of operations, by number, of which the trace says that the first stands before the second: its before pairs, and those
+    /// that follow from times and not from program order.
     pub fn before(&self) -> &[(usize, usize)]
-        ensures { result.now ≡ map (λ (pair : OpName × OpName). (numbers.number_of self.now pair.0, numbers.number_of self.now pair.1)) self.now.before }
+        ensures { result.now ≡ known_pairs self.now }
     {
         self.before.as_slice()
     }

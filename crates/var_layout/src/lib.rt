@@ -8,6 +8,7 @@ mod before_numbers;
 pub mod candidate;
 mod choice_variables;
 mod final_variables;
+mod known_pairs;
 pub mod laws;
 pub mod layout;
 mod numbering;

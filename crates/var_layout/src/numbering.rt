@@ -81,6 +81,7 @@ impl<'a> Numbering<'a> {
     ghost use Rattle.trace_semantics.specs.Judgement.{is_the_op};
     ghost use Rattle.trace_semantics.specs.Trace.{IsTrace, operation_count};
     ghost use Rattle.var_layout.specs.Numbered.{NumberedOp};
+    ghost use Rattle.var_layout.specs.KnownPairs as known;
     ghost use Rattle.var_layout.specs.Numbers as number;
 
     /// The numbering of the trace's operations.
@@ -137,6 +138,18 @@ impl<'a> Numbering<'a> {
     {
         match (self.named(i), self.named(j)) {
             (Some(first), Some(second)) => first.process.as_bytes() == second.process.as_bytes(),
+            _ => false,
+        }
+    }
+
+    /// Returns whether both are operations of one process, and the first has the lower place.
+    pub fn in_program_order(&self, i: usize, j: usize) -> bool
+        ensures { result ≡ known.in_program_order self.now i j }
+    {
+        match (self.named(i), self.named(j)) {
+            (Some(first), Some(second)) => {
+                first.process.as_bytes() == second.process.as_bytes() && first.place < second.place
+            }
             _ => false,
         }
     }

@@ -3,13 +3,14 @@
 use crate::held_value::held_after;
 use crate::illegal_whole::{explain_final, explain_missing};
 use crate::named_operations::{
-    has_come, is_named, operation_of, origin_of, place_after, process_of,
+    count_of, has_come, is_named, operation_of, origin_of, place_after, process_of,
 };
 use crate::sentence::Sentence;
 use note_text::{Notes, decimal};
 use schedule_judge::judge::judge;
 use std::alloc::{AllocError, Global};
 use trace_semantics::judgement::{IllegalCause, Judgement};
+use trace_semantics::known_order::ends_before;
 use trace_semantics::operation::{OpName, Origin};
 use trace_semantics::schedule::Schedule;
 use trace_semantics::trace::Trace;
@@ -134,7 +135,7 @@ fn add_wrong_read(sentence: &mut Sentence, trace: &Trace, before: &[OpName], nam
     sentence.add_held(held_after(trace, before, location));
 }
 
-/// Adds which operation has to come before it by a pair.
+/// Adds which operation has to come before it by a pair, or else by times.
 fn add_broken(sentence: &mut Sentence, trace: &Trace, before: &[OpName], name: &OpName) {
     for pair in trace.before() {
         let first = pair.0.process.as_bytes();
@@ -145,6 +146,26 @@ fn add_broken(sentence: &mut Sentence, trace: &Trace, before: &[OpName], name: &
             sentence.add(&[b" comes before "]);
             sentence.add_name(first, place);
             return sentence.add(&[b", which a before line puts before it"]);
+        }
+    }
+    add_overtaken(sentence, trace, before, name);
+}
+
+/// Adds which operation had ended before it began and comes later. What came of a process are its first operations, as the names before it
+/// have no fault.
+fn add_overtaken(sentence: &mut Sentence, trace: &Trace, before: &[OpName], name: &OpName) {
+    let Some(op) = operation_of(trace, name) else {
+        return;
+    };
+    let span = op.span();
+    for process in trace.processes() {
+        let ops = process.operations.as_slice();
+        for k in count_of(before, process.name.as_bytes())..ops.len() {
+            if ends_before(ops[k].span(), span) {
+                sentence.add(&[b" comes before "]);
+                sentence.add_name(process.name.as_bytes(), place_after(k));
+                return sentence.add(&[b", which had ended before it began"]);
+            }
         }
     }
 }

@@ -59,13 +59,14 @@ fn value_behind(op: &Op) -> Option<u64> {
     }
 }
 
-/// Returns whether the second is a plain read of what its location holds directly after the first, of which nothing is said from where.
+/// Returns whether the second is a plain read of what its location holds directly after the first, of which nothing is said from where or when.
 fn repeats(earlier: &Op, op: &Op) -> bool {
     match op {
         Op::Read {
             location,
             value,
             origin: Origin::Any,
+            span: None,
         } => {
             earlier.location().as_bytes() == location.as_bytes()
                 && value_behind(earlier) == Some(*value)

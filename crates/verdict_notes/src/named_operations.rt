@@ -44,6 +44,17 @@ pub fn has_come(names: &[OpName], process: &[u8], place: u64) -> bool {
     false
 }
 
+/// The number of these names that are of the process.
+pub fn count_of(names: &[OpName], process: &[u8]) -> usize {
+    let mut count: usize = 0;
+    for name in names {
+        if name.process.as_bytes() == process {
+            count = count.saturating_add(1);
+        }
+    }
+    count
+}
+
 /// The number of a place that is counted from 0.
 pub fn place_after(k: usize) -> u64 {
     (k as u64).saturating_add(1)

@@ -2,7 +2,7 @@
 
 use crate::sentence::Sentence;
 use note_text::decimal;
-use trace_semantics::operation::{Op, Origin};
+use trace_semantics::operation::{Op, Origin, Span};
 
 impl Sentence {
     /// Adds the operation as its line in a trace, as `R x 1 from P 2`.
@@ -12,12 +12,17 @@ impl Sentence {
                 location,
                 value,
                 origin,
+                ..
             } => {
                 let read = decimal(*value);
                 self.add(&[b"R ", location.as_bytes(), b" ", read.as_slice()]);
                 self.add_origin(origin)
             }
-            Op::Write { location, value } => {
+            Op::Write {
+                location,
+                value,
+                ..
+            } => {
                 let left = decimal(*value);
                 self.add(&[b"W ", location.as_bytes(), b" ", left.as_slice()])
             }
@@ -26,6 +31,7 @@ impl Sentence {
                 read,
                 left,
                 origin,
+                ..
             } => {
                 let read = decimal(*read);
                 self.add(&[b"U ", location.as_bytes(), b" ", read.as_slice()]);
@@ -33,6 +39,19 @@ impl Sentence {
                 self.add(&[b" ", left.as_slice()]);
                 self.add_origin(origin)
             }
+        }
+        self.add_span(op.span())
+    }
+
+    /// Adds when an operation was under way by its line.
+    fn add_span(&mut self, span: Option<Span>) {
+        match span {
+            Some(span) => {
+                let start = decimal(span.start);
+                let end = decimal(span.end);
+                self.add(&[b" at ", start.as_slice(), b" ", end.as_slice()])
+            }
+            None => {}
         }
     }
 

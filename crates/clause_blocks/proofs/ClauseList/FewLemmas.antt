@@ -12,7 +12,6 @@ use Rattle.std.proofs.lemmas.Nat.{mul-le}
 use Rattle.text_lines.proofs.ListLemmas.{few_pass}
 use Rattle.trace_semantics.proofs.NameLemmas.{same_bytes}
 use Rattle.trace_semantics.specs.declared.operation.Op.{Op}
-use Rattle.trace_semantics.specs.declared.operation.OpName.{OpName}
 use Rattle.trace_semantics.specs.Operation.{location_of, written_value}
 use Rattle.trace_semantics.specs.Trace.{TraceValue, IsTrace, operation_at, operation_count}
 use Rattle.trace_semantics.specs.ValueAfter.{value_left_at}
@@ -23,7 +22,8 @@ use Rattle.var_layout.specs.declared.candidate.FinalChoice.{FinalChoice}
 use Rattle.var_layout.specs.Candidates.{candidates}
 use Rattle.var_layout.specs.ChoiceVariables.{choices, first_choice}
 use Rattle.var_layout.specs.FinalVariables.{final_candidates, final_choices, first_final, is_untouched}
-use Rattle.var_layout.specs.Numbers.{in_one_process, left_at, name_at, number_of, numbers, others, other_writers, read_at, readers, writers}
+use Rattle.var_layout.specs.KnownPairs.{is_said, said_after, known_pairs}
+use Rattle.var_layout.specs.Numbers.{in_one_process, left_at, name_at, numbers, others, other_writers, read_at, readers, writers}
 use Rattle.var_layout.proofs.BoundLemmas.{few_candidates, few_finals, few_leavers, few_others}
 use Rattle.var_layout.proofs.WrittenOnceLemmas.{written_in, none_written, more_written, few_written}
 use Rattle.clause_blocks.specs.Blocks.{before_clauses, clauses_of_final, clauses_of_read, final_clauses, implies, program_order, read_clauses, reads_from, stands_before, transitivity, void_clauses, writes_last}
@@ -106,14 +106,22 @@ final_sum t m (entry ∷ values) few =
 few_finals_in_all : (t : TraceValue) → IsTrace t → operation_count t ≤ 160 → length (final_clauses t) ≤ 156672
 few_finals_in_all t ok few = omega (arith, final_sum t 0 t.final_values few, few_finals t ok, few_written t ok, few)
 
+few_said : (t : TraceValue) (i : ℕ) → operation_count t ≤ 160 → length (said_after t i) ≤ 160
+few_said t i few =
+    let mapped = length-map {B = ℕ × ℕ} (filter (is_said t i) (numbers t)) (λ (j : ℕ). (i, j)) in
+    omega (arith, mapped, few_pass (is_said t i) (numbers t), length-range_with_len 0 (operation_count t), few)
+
+few_known : (t : TraceValue) → operation_count t ≤ 160 → length (known_pairs t) ≤ 25600
+few_known t few = omega (arith, few_flat (said_after t) 160 (numbers t) (λ i. few_said t i few), length-range_with_len 0 (operation_count t), few)
+
 pub few_in_list : (t : TraceValue) → IsTrace t → operation_count t ≤ 160 → length (clauses_of t) ≤ 16777216
 few_in_list t ok few =
     let order = few_passed (λ i. stands_before t i (i + 1) ∷ []) (λ i. in_one_process t i (i + 1)) (operation_count t) 160 few in
     let triples = few_transitivity (operation_count t) few in
-    let pairs = length-map t.before (λ (pair : OpName × OpName). stands_before t (number_of t pair.0) (number_of t pair.1) ∷ []) in
+    let pairs = length-map (known_pairs t) (λ (pair : ℕ × ℕ). stands_before t pair.0 pair.1 ∷ []) in
     let all = ap length (clause_list t) in
     let a = length-append (program_order t) (transitivity (operation_count t) ++ (read_clauses t ++ (final_clauses t ++ before_clauses t))) in
     let b = length-append (transitivity (operation_count t)) (read_clauses t ++ (final_clauses t ++ before_clauses t)) in
     let c = length-append (read_clauses t) (final_clauses t ++ before_clauses t) in
     let d = length-append (final_clauses t) (before_clauses t) in
-    omega (arith, order, triples, pairs, all, a, b, c, d, few_reads t few, few_finals_in_all t ok few, ok.few_pairs)
+    omega (arith, order, triples, pairs, all, a, b, c, d, few_reads t few, few_finals_in_all t ok few, few_known t few)

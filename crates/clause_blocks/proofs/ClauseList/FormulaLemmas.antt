@@ -7,7 +7,6 @@ use Rattle.std.proofs.lemmas.Bool.Decides.{nat_tests}
 use Rattle.std.proofs.lemmas.Bool.{and_from, and_parts}
 use Rattle.dimacs.specs.Formula.{is_formula}
 use Rattle.dimacs.specs.Literal.{is_literal_up_to, is_clause_up_to}
-use Rattle.trace_semantics.specs.declared.operation.OpName.{OpName}
 use Rattle.trace_semantics.specs.Trace.{TraceValue, IsTrace, operation_count}
 use Rattle.trace_semantics.proofs.ElementLemmas.{head_in, tail_in, from_filter, from_range}
 use Rattle.var_layout.specs.declared.candidate.Candidate.{Candidate}
@@ -17,11 +16,12 @@ use Rattle.var_layout.specs.declared.candidate.FinalChoice.{FinalChoice}
 use Rattle.var_layout.specs.Candidates.{candidates}
 use Rattle.var_layout.specs.ChoiceVariables.{choices, first_choice}
 use Rattle.var_layout.specs.FinalVariables.{final_candidates, final_choices, first_final, is_untouched, variable_count, void_of}
-use Rattle.var_layout.specs.Numbers.{in_one_process, numbers, number_of, others, other_writers, read_at, readers, writers}
+use Rattle.var_layout.specs.KnownPairs.{known_pairs}
+use Rattle.var_layout.specs.Numbers.{in_one_process, numbers, others, other_writers, read_at, readers, writers}
 use Rattle.var_layout.specs.OrderVariables.{numbers_above, order_lit}
 use Rattle.var_layout.specs.Ranges.{IsVariable}
 use Rattle.var_layout.specs.declared.layout.ReadsFromOwner.TheVariants.{Read, Final}
-use Rattle.var_layout.proofs.NumberLemmas.{pairs_apart}
+use Rattle.var_layout.proofs.KnownPairs.SaidLemmas.{pair_apart}
 use Rattle.var_layout.proofs.VariableLemmas.{orders_over, choice_over, final_over, void_over}
 use Rattle.var_layout.proofs.WriterLemmas.{writer_within, other_writer}
 use Rattle.clause_blocks.specs.Blocks.{before_clauses, clauses_of_final, clauses_of_read, final_clauses, implies, no_cycle, program_order, read_clauses, reads_from, stands_before, transitivity, transitivity_from, void_clauses, writes_last}
@@ -166,8 +166,8 @@ module _ (t : TraceValue) (ok : IsTrace t) where
   finals_over = ap are_over (sym (all_finals t)) ∙ all_flat (is_clause_up_to (variable_count t)) (clauses_at t) (range_with_len 0 (length t.final_values)) (λ k d. final_at k (slice_get t.final_values k) refl)
 
   pairs_over : are_over (before_clauses t) ≡ true
-  pairs_over = all_map (is_clause_up_to (variable_count t)) (λ (pair : OpName × OpName). stands_before t (number_of t pair.0) (number_of t pair.1) ∷ []) t.before
-      (λ pair d. one is_over (stands_before t (number_of t pair.0) (number_of t pair.1)) (before_over (number_of t pair.0) (number_of t pair.1) (pairs_apart t ok pair d)))
+  pairs_over = all_map (is_clause_up_to (variable_count t)) (λ (pair : ℕ × ℕ). stands_before t pair.0 pair.1 ∷ []) (known_pairs t)
+      (λ pair d. one is_over (stands_before t pair.0 pair.1) (before_over pair.0 pair.1 (pair_apart t ok pair d)))
 
   pub clauses_over : is_formula (formula_of t) ≡ true
   clauses_over =

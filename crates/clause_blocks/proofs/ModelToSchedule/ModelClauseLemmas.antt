@@ -6,12 +6,12 @@ use Rattle.std.proofs.lemmas.Bool.{cases_Bool, cases_order, true_from_ne_false, 
 use Rattle.std.proofs.lemmas.List.Elements.{Contains-append_left, Contains-append_right}
 use Rattle.dimacs.specs.Assignment.{makes_true, makes_some}
 use Rattle.dimacs.specs.Models.{IsModel}
-use Rattle.trace_semantics.specs.declared.operation.OpName.{OpName}
 use Rattle.trace_semantics.specs.Trace.{TraceValue, operation_count}
 use Rattle.trace_semantics.proofs.ElementLemmas.{all_pass, head_in, tail_in, to_map, to_filter, to_flat_map, to_range}
 use Rattle.var_layout.specs.declared.candidate.Candidate.{Candidate}
 use Rattle.var_layout.specs.declared.candidate.Candidate.TheVariants.{InitialValue, Writer}
-use Rattle.var_layout.specs.Numbers.{numbers, number_of, others, other_writers, in_one_process}
+use Rattle.var_layout.specs.KnownPairs.{known_pairs}
+use Rattle.var_layout.specs.Numbers.{numbers, others, other_writers, in_one_process}
 use Rattle.var_layout.specs.OrderVariables.{numbers_above, order_lit}
 use Rattle.clause_blocks.specs.Blocks.{stands_before, implies, program_order, no_cycle, transitivity_from, transitivity, read_clauses, final_clauses, before_clauses}
 use Rattle.clause_blocks.specs.Clauses.{clauses_of}
@@ -175,11 +175,11 @@ module _ (value : ℕ → Bool) (t : TraceValue) (model : IsModel value (clauses
       (to_map (λ (j : ℕ). stands_before t j (j + 1) ∷ []) (filter (λ (j : ℕ). in_one_process t j (j + 1)) (numbers t)) i
       (to_filter (λ (j : ℕ). in_one_process t j (j + 1)) (numbers t) i e (to_range 0 (operation_count t) i (omega arith) (omega (arith, h)))))))
 
-  -- before pairs
-  pub model_pair : (pair : OpName × OpName) → Contains t.before pair → order_by value t (number_of t pair.0) (number_of t pair.1) ≡ true
+  -- pairs that the trace says
+  pub model_pair : (pair : ℕ × ℕ) → Contains (known_pairs t) pair → order_by value t pair.0 pair.1 ≡ true
   model_pair pair c =
-      one_true value (stands_before t (number_of t pair.0) (number_of t pair.1))
-      (in_pairs _ (to_map (λ (p : OpName × OpName). stands_before t (number_of t p.0) (number_of t p.1) ∷ []) t.before pair c))
+      one_true value (stands_before t pair.0 pair.1)
+      (in_pairs _ (to_map (λ (p : ℕ × ℕ). stands_before t p.0 p.1 ∷ []) (known_pairs t) pair c))
 
   -- transitivity
   pub model_trans : (i j k : ℕ) → i ≢ j → j ≢ k → i ≢ k → i < operation_count t → j < operation_count t → k < operation_count t → order_by value t i j ≡ true → order_by value t j k ≡ true → order_by value t i k ≡ true

@@ -3,17 +3,19 @@ use Rattle.std.proofs.Common.{◌≡◌, ℕ, zero, suc, ◌+◌, ◌<◌, ◌�
 use Rattle.std.specs.Prelude.{◌≢◌, Some, IsSome}
 use Rattle.std.specs.List.{Contains}
 use Rattle.std.proofs.lemmas.Bool.{cases_order}
-use Rattle.std.proofs.lemmas.List.Elements.{All-contains, Contains-append_cases}
+use Rattle.std.proofs.lemmas.List.Elements.{Contains-append_cases}
 use Rattle.dimacs.specs.Models.{IsModel}
 use Rattle.trace_semantics.specs.declared.operation.OpName.{OpName}
 use Rattle.trace_semantics.specs.declared.trace.Process.{Process}
 use Rattle.trace_semantics.specs.Interleaving.{StandsBefore, IsInterleaving}
+use Rattle.trace_semantics.specs.KnownOrder.{IsKnownBefore}
 use Rattle.restriction.proofs.StandLemmas.{stands_in}
 use Rattle.trace_semantics.specs.Trace.{TraceValue, IsTrace, operation_at}
 use Rattle.trace_semantics.proofs.ElementLemmas.{cases_in, same_from_key}
 use Rattle.trace_semantics.proofs.NameLemmas.{bytes_same, known_named}
 use Rattle.trace_semantics.proofs.OrderLemmas.{stands_ahead}
 use Rattle.var_layout.specs.Numbers.{name_at, number_of, in_one_process, share_process}
+use Rattle.var_layout.proofs.KnownPairs.SaidLemmas.{known_listed, both_known, known_apart}
 use Rattle.clause_blocks.specs.Clauses.{clauses_of}
 use Rattle.clause_blocks.specs.ModelOrder.{IsInOrderOf}
 use Rattle.clause_blocks.proofs.ModelToSchedule.ModelClauseLemmas.{order_by, model_next, model_pair}
@@ -82,13 +84,28 @@ module _ (value : ℕ → Bool) (t : TraceValue) (names : List OpName) (ok : IsT
             (behind_in_process first.process first.listed n m (first.called ∙ same) first.called second.least more first.most))
       ]
 
+  -- of one process, the lower place stands before the higher
+  lower_stands : (m n : OpName) → IsSome (operation_at t m) → IsSome (operation_at t n) → m.process ≡ n.process → m.place < n.place → StandsBefore names m n
+  lower_stands m n h k same less =
+      let first = known_named t m h in
+      let second = known_named t n k in
+      let one : first.process ≡ second.process = same_from_key (λ (p : Process). p.name) t.processes ok.distinct first.process second.process first.listed second.listed (first.called ∙ same ∙ sym second.called) in
+      let most : n.place ≤ length first.process.operations = subst (λ (p : Process). n.place ≤ length p.operations) (sym one) second.most in
+      behind_in_process first.process first.listed m n first.called (first.called ∙ same) first.least less most
+
+  known_stands : (m n : OpName) → IsKnownBefore t m n → StandsBefore names m n
+  known_stands m n h =
+      let known = both_known t ok m n h in
+      elim (known_listed t ok m n h) [
+        | inl listed ↦ ahead_stands value t names ok order m n known.0 known.1 (known_apart t ok m n h) (model_pair value t model (number_of t m, number_of t n) listed)
+        | inr lower ↦ lower_stands m n known.0 known.1 lower.0 lower.1
+      ]
+
   pub interleaved : IsInterleaving t names
   interleaved = record {
     each = order.all.each;
     only = order.all.only;
     once = order.all.once;
     program_order = λ m n s same. (let in_names = stands_in names m n s in in_program_order m n (order.all.only m in_names.0) (order.all.only n in_names.1) s same);
-    before_pairs = λ m n c.
-        (let known = All-contains (λ (pair : OpName × OpName). IsSome (operation_at t pair.0) × IsSome (operation_at t pair.1)) t.before (m, n) ok.known c in
-        ahead_stands value t names ok order m n known.0 known.1 (All-contains (λ (pair : OpName × OpName). pair.0 ≢ pair.1) t.before (m, n) ok.before_apart c) (model_pair value t model (m, n) c));
+    known_order = λ m n h. known_stands m n h;
   }

@@ -63,9 +63,9 @@ writer_comes t names location (Operation n) w x h f e =
 
 -- an operation that reads nothing has no origin
 no_origin : (op : Op) → value_read op ≡ None → origin_of op ≡ Any
-no_origin (Read location value origin) e = absurd (cc)
-no_origin (Write location value) e = refl
-no_origin (Update location read left origin) e = absurd (cc)
+no_origin (Read location value origin span) e = absurd (cc)
+no_origin (Write location value span) e = refl
+no_origin (Update location read left origin span) e = absurd (cc)
 
 module _ (value : ℕ → Bool) (t : TraceValue) (names : List OpName) (ok : IsTrace t) (model : IsModel value (clauses_of t)) (order : IsInOrderOf value t names) where
   apart_at : (m n : OpName) → StandsBefore names m n → m ≢ n

@@ -1,27 +1,27 @@
 -- The truth values that a legal schedule gives the variables are a model.
 use Rattle.std.proofs.Common.{◌≡◌, ◌⊎◌, ℕ, ◌+◌, ◌-◌, ◌<◌, ℤ, pos, neg_ℤ, List, [], ◌∷◌, length, map, Bool, true, false, not, ◌||◌, refl, ap, sym, ◌∙◌, arith, inl, inr, subst}
-use Rattle.std.specs.Prelude.{◌≢◌, ◌==◌, Option, Some, None, IsSome}
+use Rattle.std.specs.Prelude.{◌≢◌, ◌==◌, Option, Some, None}
 use Rattle.std.specs.List.{Contains, filter, flat_map, list_all}
 use Rattle.std.proofs.lemmas.Bool.{and_parts, and_from, eqb-true, or_cases, or_right}
-use Rattle.std.proofs.lemmas.List.Elements.{All-contains}
 use Rattle.dimacs.specs.Assignment.{makes_true, makes_some}
 use Rattle.trace_semantics.specs.declared.operation.OpName.{OpName}
 use Rattle.trace_semantics.specs.Interleaving.{StandsBefore}
 use Rattle.trace_semantics.specs.Legal.{IsLegal}
-use Rattle.trace_semantics.specs.Trace.{TraceValue, IsTrace, operation_at, operation_names, operation_count}
+use Rattle.trace_semantics.specs.Trace.{TraceValue, IsTrace, operation_names, operation_count}
 use Rattle.trace_semantics.proofs.ElementLemmas.{all_pass, pass_all, passes_some, head_in, cases_in, none_in, from_map, to_map, from_filter, from_flat_map, from_range}
 use Rattle.trace_semantics.proofs.NameLemmas.{same_bytes}
 use Rattle.var_layout.specs.declared.candidate.Candidate.{Candidate}
 use Rattle.var_layout.specs.declared.candidate.Candidate.TheVariants.{InitialValue, Writer}
-use Rattle.var_layout.specs.Numbers.{numbers, name_at, number_of, others, other_writers, in_one_process, share_process}
+use Rattle.var_layout.specs.KnownPairs.{known_pairs}
+use Rattle.var_layout.specs.Numbers.{numbers, name_at, others, other_writers, in_one_process, share_process}
 use Rattle.var_layout.specs.OrderVariables.{numbers_above}
+use Rattle.var_layout.proofs.KnownPairs.SaidLemmas.{listed_known, pair_apart}
 use Rattle.clause_blocks.specs.Blocks.{stands_before, implies, program_order, no_cycle, transitivity_from, transitivity, before_clauses}
 use Rattle.clause_blocks.proofs.ModelToSchedule.ModelClauseLemmas.{Meets, order_by}
-use Rattle.clause_blocks.proofs.NumbersOfNames.OperationNumberLemmas.{get_stands, names_rise, number_within, numbered}
+use Rattle.clause_blocks.proofs.NumbersOfNames.OperationNumberLemmas.{get_stands, names_rise, number_within}
 use Rattle.clause_blocks.proofs.NumbersOfNames.OrderLiteralLemmas.{negation, lit_negated, turned}
 use Rattle.clause_blocks.proofs.ScheduleToModel.ScheduleOrderLemmas.{ahead_in, stands_numbered, stands_either, schedule_trans}
 use Rattle.clause_blocks.proofs.ScheduleToModel.ScheduleValueLemmas.{meets, truth, order_is}
-use Rattle.clause_blocks.proofs.NumbersOfNames.WriterNumberLemmas.{numbers_apart}
 
 -- one true literal makes the clause true
 pub first_makes : (value : ℕ → Bool) (a : ℤ) (rest : List ℤ) → makes_true value a ≡ true → makes_some value (a ∷ rest) ≡ true
@@ -100,18 +100,15 @@ module _ (t : TraceValue) (names : List OpName) (ok : IsTrace t) (legal : IsLega
       let listed = from_filter (λ (i : ℕ). in_one_process t i (i + 1)) (numbers t) at.0 at.1 in
       subst (λ l. makes_some values l ≡ true) at.2 (first_makes values (stands_before t at.0 (at.0 + 1)) [] (next_true at.0 listed.1))
 
-  -- before pairs
+  -- pairs that the trace says
   pub pairs_true : (c : List ℤ) → Contains (before_clauses t) c → makes_some values c ≡ true
   pairs_true c d =
-      let at = from_map (λ (pair : OpName × OpName). stands_before t (number_of t pair.0) (number_of t pair.1) ∷ []) t.before c d in
-      let known = All-contains (λ (pair : OpName × OpName). IsSome (operation_at t pair.0) × IsSome (operation_at t pair.1)) t.before at.0 ok.known at.1 in
-      let apart = All-contains (λ (pair : OpName × OpName). pair.0 ≢ pair.1) t.before at.0 ok.before_apart at.1 in
-      let numbers_differ = numbers_apart t ok at.0.0 at.0.1 known.0 known.1 apart in
-      let first = numbered t ok at.0.0 known.0 in
-      let second = numbered t ok at.0.1 known.1 in
-      let stands : StandsBefore names at.0.0 at.0.1 = legal.interleaving.before_pairs at.0.0 at.0.1 at.1 in
-      let literal = literal_is (number_of t at.0.0) (number_of t at.0.1) at.0.0 at.0.1 numbers_differ first second ∙ stands_numbered t names ok legal.interleaving (number_of t at.0.0) (number_of t at.0.1) at.0.0 at.0.1 first second stands in
-      subst (λ l. makes_some values l ≡ true) at.2 (first_makes values (stands_before t (number_of t at.0.0) (number_of t at.0.1)) [] literal)
+      let at = from_map (λ (pair : ℕ × ℕ). stands_before t pair.0 pair.1 ∷ []) (known_pairs t) c d in
+      let known = listed_known t ok at.0.0 at.0.1 at.1 in
+      let apart = (pair_apart t ok at.0 at.1).2 in
+      let stands : StandsBefore names known.first known.second = legal.interleaving.known_order known.first known.second known.known in
+      let literal = literal_is at.0.0 at.0.1 known.first known.second apart known.first_at known.second_at ∙ stands_numbered t names ok legal.interleaving at.0.0 at.0.1 known.first known.second known.first_at known.second_at stands in
+      subst (λ l. makes_some values l ≡ true) at.2 (first_makes values (stands_before t at.0.0 at.0.1) [] literal)
 
   -- transitivity
   module _ (i j k : ℕ) (ij : i < j) (jk : j < k) (within : k < operation_count t) where

@@ -1,23 +1,27 @@
 -- An interleaving of the kept trace with the dropped reads put back, and one of the whole trace without them.
-use Rattle.std.proofs.Common.{◌≡◌, ◌<◌, List, Bool, true, false, not, ◌&&◌, ◌||◌, refl, ap, sym, ◌∙◌, arith}
+use Rattle.std.proofs.Common.{◌≡◌, ◌<◌, List, Bool, true, false, not, ◌&&◌, ◌||◌, refl, ap, sym, ◌∙◌, arith, inl, inr}
 use Rattle.std.specs.Prelude.{IsSome}
 use Rattle.std.specs.List.{Contains}
 use Rattle.std.proofs.lemmas.List.Elements.{All-contains}
 use Rattle.std.proofs.lemmas.Bool.{or_left, or_right}
 use Rattle.trace_semantics.specs.declared.operation.OpName.{OpName}
 use Rattle.trace_semantics.specs.Interleaving.{StandsBefore, IsInterleaving}
+use Rattle.trace_semantics.specs.KnownOrder.{span_at, ended_before, IsKnownBefore}
 use Rattle.trace_semantics.specs.Operation.{same_op}
 use Rattle.trace_semantics.specs.Trace.{TraceValue, IsTrace, operation_at}
 use Rattle.trace_semantics.proofs.ElementLemmas.{passes_some, from_map, to_map, from_flat_map, to_flat_map}
+use Rattle.trace_semantics.proofs.KnownOrderLemmas.{both_timed}
 use Rattle.trace_semantics.proofs.NameLemmas.{name_same}
 use Rattle.restriction.specs.Left.{new_name, new_pair, restricted}
 use Rattle.restriction.specs.Restriction.{ArePairsLeft}
 use Rattle.restriction.proofs.LeftLemmas.{IsOld}
 use Rattle.restriction.proofs.RestrictLemmas.{restriction_interleaves}
+use Rattle.restriction.proofs.SpanLemmas.{both_there, ended_left}
 use Rattle.restriction.proofs.StandLemmas.{stands_in}
 use Rattle.reducer.specs.Expansion.{expanded, expansion}
 use Rattle.reducer.specs.Reduction.{repeats, previous, is_in_pair, is_an_origin, kept_op, is_kept, kept_trace}
-use Rattle.reducer.proofs.KeptTrace.KeptLemmas.{known_kept, kept_first, first_kept}
+use Rattle.reducer.proofs.DroppedReads.RepeatLemmas.{kept_as_timed}
+use Rattle.reducer.proofs.KeptTrace.KeptLemmas.{known_kept, kept_spans, kept_first, first_kept}
 use Rattle.reducer.proofs.PartsLemmas.{InParts, Same, Apart, stands_parts, parts_stand}
 use Rattle.reducer.proofs.RunLemmas.{expanded_member, expanded_rises, belongs, earlier}
 
@@ -88,11 +92,24 @@ module _ (t : TraceValue) (ok : IsTrace t) (names : List OpName) (given : IsInte
   once_each : (n : OpName) → StandsBefore (expansion t names) n n → ⊥
   once_each n s = let less = in_order n n s refl in omega (arith, less)
 
+  stand_put_back : (m n : OpName) → IsSome (operation_at t m) × IsSome (operation_at t n) → StandsBefore names (new_name (kept_op t) m) (new_name (kept_op t) n) → StandsBefore (expansion t names) m n
+  stand_put_back m n known s = parts_stand (expanded t) names (new_name (kept_op t) m) (new_name (kept_op t) n) m n s (belongs t ok m known.0).listed (belongs t ok n known.1).listed
+
   pairs_kept : (m n : OpName) → Contains t.before (m, n) → StandsBefore (expansion t names) m n
   pairs_kept m n c =
       let known = pair_known t ok (m, n) c in
-      let s = given.before_pairs (new_name (kept_op t) m) (new_name (kept_op t) n) (to_map (new_pair (kept_op t)) t.before (m, n) c) in
-      parts_stand (expanded t) names (new_name (kept_op t) m) (new_name (kept_op t) n) m n s (belongs t ok m known.0).listed (belongs t ok n known.1).listed
+      stand_put_back m n known (given.known_order (new_name (kept_op t) m) (new_name (kept_op t) n) (inl (to_map (new_pair (kept_op t)) t.before (m, n) c)))
+
+  times_kept : (m n : OpName) → ended_before t m n ≡ true → StandsBefore (expansion t names) m n
+  times_kept m n h =
+      let known = both_timed t m n h in
+      let spans = both_there (span_at t m) (span_at t n) h in
+      let same = ended_left t (kept_trace t) ok (kept_op t) refl (kept_spans t) m n known.0 known.1 (kept_as_timed t m known.0 spans.0) (kept_as_timed t n known.1 spans.1) in
+      stand_put_back m n known (given.known_order (new_name (kept_op t) m) (new_name (kept_op t) n) (inr (same ∙ h)))
+
+  order_kept : (m n : OpName) → IsKnownBefore t m n → StandsBefore (expansion t names) m n
+  order_kept m n (inl c) = pairs_kept m n c
+  order_kept m n (inr h) = times_kept m n h
 
 pub expansion_interleaves : (t : TraceValue) (names : List OpName) → IsTrace t → IsInterleaving (kept_trace t) names → IsInterleaving t (expansion t names)
 expansion_interleaves t names ok given = record {
@@ -100,7 +117,7 @@ expansion_interleaves t names ok given = record {
   only = only_known t ok names given;
   once = once_each t ok names given;
   program_order = in_order t ok names given;
-  before_pairs = pairs_kept t ok names given;
+  known_order = order_kept t ok names given;
 }
 
 -- without them
@@ -113,10 +130,10 @@ pairs_left t names ok given x y c =
       n,
       first_in_pair t ok m n at.1,
       second_in_pair t ok m n at.1,
-      given.before_pairs m n at.1,
+      given.known_order m n (inl at.1),
       ap (λ (pair : OpName × OpName). pair.0) at.2,
       ap (λ (pair : OpName × OpName). pair.1) at.2,
     )
 
 pub reduction_interleaves : (t : TraceValue) (names : List OpName) → IsTrace t → IsInterleaving t names → IsInterleaving (kept_trace t) (reduced t names)
-reduction_interleaves t names ok given = restriction_interleaves t (kept_trace t) ok (kept_op t) refl names given (pairs_left t names ok given)
+reduction_interleaves t names ok given = restriction_interleaves t (kept_trace t) ok (kept_op t) refl names given (pairs_left t names ok given) (kept_spans t)

@@ -27,7 +27,8 @@ use Rattle.restriction.proofs.WriterLemmas.{same_location}
 use Rattle.reducer.specs.Reduction.{value_behind, is_from, previous, is_dropped, kept_op, is_kept, kept_trace}
 use Rattle.reducer.proofs.DroppedReads.InterleavingLemmas.{reduced, kept_as_origin}
 use Rattle.reducer.proofs.KeptTrace.KeptLemmas.{kept_known}
-use Rattle.reducer.proofs.DroppedReads.ValueLemmas.{dropped_repeats, same_read, values_alike, last_alike, writer_kept}
+use Rattle.reducer.proofs.DroppedReads.RepeatLemmas.{dropped_repeats}
+use Rattle.reducer.proofs.DroppedReads.ValueLemmas.{same_read, values_alike, last_alike, writer_kept}
 
 pub origin_known : (t : TraceValue) → IsTrace t → (op : Op) → Listed t op → IsKnownOrigin t (origin_of op)
 origin_known t ok op at =
@@ -76,9 +77,9 @@ reads_with t ok names op at right = record {
 }
 
 held_by : (op : Op) (o : Option ℕ) → ((d : ℕ) → value_read op ≡ Some d → o ≡ Some d) → over (cond true (written_value op) None) o ≡ Some (value_behind op)
-held_by (Read location value origin) o h = h value refl
-held_by (Write location value) o h = refl
-held_by (Update location read left origin) o h = refl
+held_by (Read location value origin span) o h = h value refl
+held_by (Write location value span) o h = refl
+held_by (Update location read left origin span) o h = refl
 
 pub held_behind : (t : TraceValue) (names : List OpName) (n : OpName) (op : Op) → operation_at t n ≡ Some op → ReadsRight t names op → value_after t (location_of op) (names ++ n ∷ []) ≡ Some (value_behind op)
 held_behind t names n op e right =
@@ -92,7 +93,7 @@ pub repeat_reads : (t : TraceValue) (names : List OpName) (m n : OpName) (first 
 repeat_reads t names m n first second behind dropped e f right =
     let at = dropped_repeats t n dropped in
     let one : at.earlier ≡ first = same_Some at.earlier first (sym at.first_is ∙ ap (operation_at t) behind ∙ e) in
-    let two : Read at.location at.value Any ≡ second = same_Some (Read at.location at.value Any) second (sym at.second_is ∙ f) in
+    let two : Read at.location at.value Any None ≡ second = same_Some (Read at.location at.value Any None) second (sym at.second_is ∙ f) in
     let held : value_after t at.location (names ++ m ∷ []) ≡ Some at.value =
     ap (λ l. value_after t l (names ++ m ∷ [])) (sym at.same_location ∙ ap location_of one) ∙ held_behind t names m first e right ∙ ap Some (ap value_behind (sym one) ∙ at.same_value) in
     subst (λ o. ReadsRight t (names ++ m ∷ []) o) two (record { value = λ d g. held ∙ g; source = tt })

@@ -24,7 +24,8 @@ use Rattle.reducer.proofs.DroppedReads.InterleavingLemmas.{reduced, expansion_in
 use Rattle.reducer.proofs.KeptTrace.KeptLemmas.{kept_known, dropped_goes, first_operation, kept_first}
 use Rattle.reducer.proofs.DroppedReads.ReadLemmas.{reads_without, reads_with, repeat_reads}
 use Rattle.reducer.proofs.RunLemmas.{expanded_first, standing, behind_it}
-use Rattle.reducer.proofs.DroppedReads.ValueLemmas.{dropped_repeats, values_alike}
+use Rattle.reducer.proofs.DroppedReads.RepeatLemmas.{dropped_repeats}
+use Rattle.reducer.proofs.DroppedReads.ValueLemmas.{values_alike}
 
 mapped_some : (t : TraceValue) (o : Option Op) (op : Op) (new : Op) → o ≡ Some op → option_map (new_op (kept_op t)) o ≡ Some new → new_op (kept_op t) op ≡ new
 mapped_some t None op new e f = absurd (cc)

@@ -1,63 +1,29 @@
 -- Values and writers are the same with the dropped reads and without them.
-use Rattle.std.proofs.Common.{◌≡◌, ℕ, List, Bool, true, false, not, ◌||◌, eqb, refl, ap, sym, ◌∙◌, inl, inr, subst}
-use Rattle.std.specs.Prelude.{Option, Some, None}
+use Rattle.std.proofs.Common.{◌≡◌, ℕ, List, Bool, true, false, not, refl, ap, sym, ◌∙◌, inl, inr, subst}
+use Rattle.std.specs.Prelude.{Some, None}
 use Rattle.std.specs.Option.{option_and_then, option_map}
 use Rattle.std.specs.Str.{bytes_eq}
-use Rattle.std.proofs.lemmas.Bool.{and_parts, eqb-true}
 use Rattle.std.proofs.lemmas.Option.{same_Some}
 use Rattle.text_lines.proofs.BoolLemmas.{hidden_none}
 use Rattle.trace_semantics.specs.declared.operation.Op.{Op}
 use Rattle.trace_semantics.specs.declared.operation.Op.TheVariants.{Read, Write, Update}
 use Rattle.trace_semantics.specs.declared.operation.OpName.{OpName}
-use Rattle.trace_semantics.specs.declared.operation.Origin.TheVariants.{Any, Initial, Operation}
-use Rattle.trace_semantics.specs.Operation.{location_of, value_read}
-use Rattle.trace_semantics.specs.Trace.{TraceValue, IsTrace, operation_at}
+use Rattle.trace_semantics.specs.Operation.{value_read}
+use Rattle.trace_semantics.specs.Trace.{TraceValue, IsTrace}
 use Rattle.trace_semantics.specs.ValueAfter.{value_left_at, value_after, last_writer}
-use Rattle.trace_semantics.proofs.NameLemmas.{same_bytes}
 use Rattle.restriction.specs.LastWriter.{IsLast}
 use Rattle.restriction.specs.Left.{new_name, new_op}
 use Rattle.restriction.specs.Restriction.{left_by, StaysAlike}
 use Rattle.restriction.proofs.WriterLemmas.{silent_writer, last_writes, writer_known, last_of, same_after}
-use Rattle.reducer.specs.Reduction.{value_behind, repeats, previous, is_in_pair, is_an_origin, is_dropped, kept_op, is_kept, kept_trace}
+use Rattle.reducer.specs.Reduction.{is_dropped, kept_op, is_kept, kept_trace}
 use Rattle.reducer.proofs.DroppedReads.InterleavingLemmas.{reduced}
+use Rattle.reducer.proofs.DroppedReads.RepeatLemmas.{dropped_repeats}
 use Rattle.reducer.proofs.KeptTrace.KeptLemmas.{kept_known, kept_whole, known_kept}
 
--- the second is a plain read of what the first leaves or reads there
-pub record Repeated (first second : Option Op) : Type 0 where
-  pub earlier : Op
-  pub location : List ℕ
-  pub value : ℕ
-  pub first_is : first ≡ Some earlier
-  pub second_is : second ≡ Some (Read location value Any)
-  pub same_location : location_of earlier ≡ location
-  pub same_value : value_behind earlier ≡ value
-
-pub repeated : (first second : Option Op) → repeats first second ≡ true → Repeated first second
-repeated None second h = absurd (cc)
-repeated (Some op) None h = absurd (cc)
-repeated (Some op) (Some (Read location value Any)) h =
-    let parts = and_parts (bytes_eq (location_of op) location) (eqb (value_behind op) value) h in
-    record {
-      earlier = op;
-      location = location;
-      value = value;
-      first_is = refl;
-      second_is = refl;
-      same_location = same_bytes (location_of op) location parts.0;
-      same_value = eqb-true (value_behind op) value parts.1;
-    }
-repeated (Some op) (Some (Read location value Initial)) h = absurd (cc)
-repeated (Some op) (Some (Read location value (Operation n))) h = absurd (cc)
-repeated (Some op) (Some (Write location value)) h = absurd (cc)
-repeated (Some op) (Some (Update location read left origin)) h = absurd (cc)
-
-pub dropped_repeats : (t : TraceValue) (n : OpName) → is_dropped t n ≡ true → Repeated (operation_at t (previous n)) (operation_at t n)
-dropped_repeats t n h = repeated (operation_at t (previous n)) (operation_at t n) (and_parts (repeats (operation_at t (previous n)) (operation_at t n)) (not (is_in_pair t n || is_an_origin t n)) h).0
-
 pub same_read : (t : TraceValue) (op : Op) → value_read (new_op (kept_op t) op) ≡ value_read op
-same_read t (Read location value origin) = refl
-same_read t (Write location value) = refl
-same_read t (Update location read left origin) = refl
+same_read t (Read location value origin span) = refl
+same_read t (Write location value span) = refl
+same_read t (Update location read left origin span) = refl
 
 pub left_dropped : (t : TraceValue) (location : List ℕ) (n : OpName) → is_dropped t n ≡ true → value_left_at t location n ≡ None
 left_dropped t location n h =

@@ -1,11 +1,13 @@
 -- A kept operation, by its name in the whole trace and by its name in the kept one.
 use Rattle.std.proofs.Common.{◌≡◌, Bool, true, false, cond, not, refl, ap, ◌∙◌}
 use Rattle.std.specs.Prelude.{Option, None, IsSome, is_some}
-use Rattle.std.specs.Option.{option_map}
+use Rattle.std.specs.Option.{option_and_then, option_map}
 use Rattle.trace_semantics.specs.declared.operation.Op.{Op}
 use Rattle.trace_semantics.specs.declared.operation.OpName.{OpName}
+use Rattle.trace_semantics.specs.Operation.{span_of}
 use Rattle.trace_semantics.specs.Trace.{TraceValue, IsTrace, operation_at}
 use Rattle.restriction.specs.Left.{new_op}
+use Rattle.restriction.specs.Restriction.{KeepsSpans}
 use Rattle.restriction.proofs.LeftLemmas.{IsOld, old_known, has_old, old_left, old_operation}
 use Rattle.reducer.specs.Reduction.{is_dropped, kept_op, is_kept, kept_trace}
 
@@ -23,6 +25,9 @@ kept_known t n h = known_by (is_dropped t n) (operation_at t n) h
 
 pub kept_whole : (t : TraceValue) (n : OpName) → is_kept t n ≡ true → kept_op t n ≡ operation_at t n
 kept_whole t n h = whole_by (is_dropped t n) (operation_at t n) h
+
+pub kept_spans : (t : TraceValue) → KeepsSpans t (kept_op t)
+kept_spans t n h = ap (option_and_then span_of) (kept_whole t n h)
 
 -- a known operation is kept if and only if it is not dropped
 kept_by : (b : Bool) (o : Option Op) → IsSome o → is_some (cond b None o) ≡ not b

@@ -20,10 +20,10 @@ use Rattle.trace_semantics.proofs.DistinctLemmas.{few_named}
 use Rattle.restriction.specs.Left.{new_name, new_pair, left_process}
 use Rattle.restriction.proofs.LeftLemmas.{IsOld, one_old, known_old}
 use Rattle.restriction.proofs.OrderedPairLemmas.{all_from, pairs_mapped, pair_less}
-use Rattle.restriction.proofs.TraceLeftLemmas.{StaysWell, op_listed, few_in_all, distinct_names, origins_known, written_process, known_new, name_written, written_name, location_there}
+use Rattle.restriction.proofs.TraceLeftLemmas.{StaysWell, op_listed, few_in_all, distinct_names, origins_known, spans_fine, written_process, known_new, name_written, written_name, location_there}
 use Rattle.reducer.specs.Reduction.{kept_op, is_kept, kept_trace}
 use Rattle.reducer.proofs.DroppedReads.InterleavingLemmas.{pair_known, first_in_pair, second_in_pair}
-use Rattle.reducer.proofs.KeptTrace.KeptLemmas.{kept_known, kept_whole}
+use Rattle.reducer.proofs.KeptTrace.KeptLemmas.{kept_known, kept_whole, kept_spans}
 use Rattle.reducer.proofs.KeptTrace.PairLemmas.{pair_earlier}
 use Rattle.reducer.proofs.DroppedReads.ReadLemmas.{named_by_origin}
 
@@ -40,6 +40,7 @@ kept_stays_well t ok = record {
   location = λ n op new e f. ap location_of (stays_same t n op new e f);
   written = λ n op new e f w. ap is_written_op (stays_same t n op new e f) ∙ w;
   origin = λ n new w f e. named_by_origin t ok new w (op_listed t n new (stays_whole t n new f)) e;
+  spans = kept_spans t;
 }
 
 module _ (t : TraceValue) (ok : IsTrace t) where
@@ -127,6 +128,7 @@ kept_is_trace t ok =
       final_order = ok.final_order;
       before_apart = pairs_apart t ok;
       origins = origins_known t (kept_trace t) ok (kept_op t) refl well;
+      spans = spans_fine t (kept_trace t) ok (kept_op t) refl well;
       before_order = pairs_rise t ok;
       few_locations = omega (arith, few_named (locations_of (kept_trace t)) (locations_of t) (locations_there t ok), ok.few_locations);
     }

@@ -30,7 +30,7 @@ use Rattle.trace_semantics.specs.Operation.{origin_of}
 use Rattle.trace_text.specs.Read.{AreSaid}
 use Rattle.trace_text.specs.References.{is_of, some_is_of, is_among, fault_of_references, fault_of_line, IsRefusedByReferences}
 use Rattle.trace_text.specs.Statement.{Statement, Proc, statement_of, words_for}
-use Rattle.trace_semantics.specs.Trace.{TraceValue, operation_at, at_place, IsKnownOrigin, is_written_name, is_written_origin, is_written_op, is_written_process, is_written_pair}
+use Rattle.trace_semantics.specs.Trace.{TraceValue, operation_at, at_place, IsKnownOrigin, is_written_name, is_written_origin, is_written_span, is_written_op, is_written_process, is_written_pair}
 use Rattle.trace_semantics.specs.Place.{place_of}
 use Rattle.trace_text.specs.TraceFault.{has_operation_at, references_of, references_of_source, is_before, is_before_itself, reference_fault, line_reference_fault, trace_line_fault, statements_of, HasTraceFault}
 use Rattle.trace_text.specs.TraceText.{header_line}
@@ -41,7 +41,6 @@ use Rattle.trace_text.proofs.LineWords.ReferenceLemmas.{has_operation-listed}
 use Rattle.trace_text.proofs.LineWords.SaidLemmas.{statements_said}
 use Rattle.trace_text.proofs.LineWords.SpellLemmas.{said_each}
 use Rattle.trace_text.specs.declared.version.Version.{Version}
-use Rattle.trace_text.specs.Version.{has_version_2_lines}
 
 -- a place that is written is read
 pub place_read : (i : ℕ) → nat_le 1 i ≡ true → nat_le i 4294967295 ≡ true → place_of (decimal i) ≡ Some i
@@ -74,17 +73,17 @@ among_known t distinct n w h =
     })
 
 -- no statement names an operation wrongly where no line does
-pub each_known : (version : Version) (lines : List (List ℕ)) (ss : List Statement) (ps : List Process) → AreSaid version lines ss → IsFaultless (λ (before : List (List ℕ)) (here : List ℕ). fault_of_line (has_version_2_lines version) ps here) lines →
+pub each_known : (version : Version) (lines : List (List ℕ)) (ss : List Statement) (ps : List Process) → AreSaid version lines ss → IsFaultless (λ (before : List (List ℕ)) (here : List ℕ). fault_of_line version ps here) lines →
     (s : Statement) → Contains ss s → fault_of_references ps (Some s) ≡ None
 each_known version lines ss ps a f s c =
     let in_kept : Contains (kept lines) (words_for s) = subst (λ (l : List (List (List ℕ))). Contains l (words_for s)) (sym a.kept_lines) (tail_in (header_line version) (map words_for ss) (words_for s) (to_map words_for ss s c)) in
     let unskipped = from_filter (λ ws. not (is_skipped ws)) (map words_of lines) (words_for s) in_kept in
     let line = from_map words_of lines (words_for s) unskipped.0 in
     let at = placed lines line.0 line.1 in
-    let none : fault_of_line (has_version_2_lines version) ps line.0 ≡ None = f at.front line.0 at.back at.parts in
+    let none : fault_of_line version ps line.0 ≡ None = f at.front line.0 at.back at.parts in
     let skip : is_skipped (words_of line.0) ≡ false = ap is_skipped line.2 ∙ not-true (is_skipped (words_for s)) unskipped.1 in
-    ap (fault_of_references ps) (sym (ap (statement_of (has_version_2_lines version)) line.2 ∙ said_each (has_version_2_lines version) ss s a.said c))
-    ∙ sym (ap (λ b. if b then None else fault_of_references ps (statement_of (has_version_2_lines version) (words_of line.0))) skip) ∙ none
+    ap (fault_of_references ps) (sym (ap (statement_of version) line.2 ∙ said_each version ss s a.said c))
+    ∙ sym (ap (λ b. if b then None else fault_of_references ps (statement_of version (words_of line.0))) skip) ∙ none
 
 no_such : (b c : Bool) → (if not b then Some NoSuchOp else if c then Some BeforeItself else None) ≡ None → b ≡ true
 no_such true c h = refl
@@ -92,7 +91,7 @@ no_such false c h = absurd (cc)
 
 -- the pairs are of known operations
 pub pairs_known : (t : TraceValue) (pairs : List (OpName × OpName)) (version : Version) (lines : List (List ℕ)) (ss : List Statement) → AllPairs (λ (p q : Process). p.name ≢ q.name) t.processes → AreSaid version lines ss → filter is_before ss ≡ map before_statement pairs → list_all is_written_pair pairs ≡ true →
-    IsFaultless (λ (before : List (List ℕ)) (here : List ℕ). fault_of_line (has_version_2_lines version) t.processes here) lines → (pair : OpName × OpName) → Contains pairs pair → IsSome (operation_at t pair.0) × IsSome (operation_at t pair.1)
+    IsFaultless (λ (before : List (List ℕ)) (here : List ℕ). fault_of_line version t.processes here) lines → (pair : OpName × OpName) → Contains pairs pair → IsSome (operation_at t pair.0) × IsSome (operation_at t pair.1)
 pairs_known t pairs version lines ss distinct a e w f pair c =
     let there : Contains ss (before_statement pair) = (from_filter is_before ss (before_statement pair) (subst (λ (l : List Statement). Contains l (before_statement pair)) (sym e) (to_map before_statement pairs pair c))).0 in
     let none = each_known version lines ss t.processes a f (before_statement pair) there in
@@ -108,7 +107,7 @@ not_itself false c h = absurd (cc)
 
 -- and of two
 pub pairs_apart : (pairs : List (OpName × OpName)) (version : Version) (lines : List (List ℕ)) (ss : List Statement) (ps : List Process) → AreSaid version lines ss → filter is_before ss ≡ map before_statement pairs →
-    IsFaultless (λ (before : List (List ℕ)) (here : List ℕ). fault_of_line (has_version_2_lines version) ps here) lines → (pair : OpName × OpName) → Contains pairs pair → pair.0 ≢ pair.1
+    IsFaultless (λ (before : List (List ℕ)) (here : List ℕ). fault_of_line version ps here) lines → (pair : OpName × OpName) → Contains pairs pair → pair.0 ≢ pair.1
 pairs_apart pairs version lines ss ps a e f pair c same =
     let there : Contains ss (before_statement pair) = (from_filter is_before ss (before_statement pair) (subst (λ (l : List Statement). Contains l (before_statement pair)) (sym e) (to_map before_statement pairs pair c))).0 in
     let none = each_known version lines ss ps a f (before_statement pair) there in
@@ -123,15 +122,15 @@ origin_known t distinct Initial w h = tt
 origin_known t distinct (Operation n) w h = among_known t distinct n w (and_parts (is_among t.processes (n.process, decimal n.place)) true h).0
 
 op_known : (t : TraceValue) → AllPairs (λ (p q : Process). p.name ≢ q.name) t.processes → (op : Op) → is_written_op op ≡ true → list_all (is_among t.processes) (references_of (op_statement op)) ≡ true → IsKnownOrigin t (origin_of op)
-op_known t distinct (ReadOp a d o) w h = origin_known t distinct o (and_parts (nat_lt d (2 ^ 64)) (is_written_origin o) (and_parts (is_name a) (nat_lt d (2 ^ 64) && is_written_origin o) w).1).1 h
-op_known t distinct (WriteOp a d) w h = tt
-op_known t distinct (UpdateOp a d e o) w h =
-    let values = and_parts (nat_lt d (2 ^ 64)) (nat_lt e (2 ^ 64) && is_written_origin o) (and_parts (is_name a) (nat_lt d (2 ^ 64) && (nat_lt e (2 ^ 64) && is_written_origin o)) w).1 in
-    origin_known t distinct o (and_parts (nat_lt e (2 ^ 64)) (is_written_origin o) values.1).1 h
+op_known t distinct (ReadOp a d o span) w h = origin_known t distinct o (and_parts (is_written_origin o) (is_written_span span) (and_parts (nat_lt d (2 ^ 64)) (is_written_origin o && is_written_span span) (and_parts (is_name a) (nat_lt d (2 ^ 64) && (is_written_origin o && is_written_span span)) w).1).1).0 h
+op_known t distinct (WriteOp a d span) w h = tt
+op_known t distinct (UpdateOp a d e o span) w h =
+    let values = and_parts (nat_lt d (2 ^ 64)) (nat_lt e (2 ^ 64) && (is_written_origin o && is_written_span span)) (and_parts (is_name a) (nat_lt d (2 ^ 64) && (nat_lt e (2 ^ 64) && (is_written_origin o && is_written_span span))) w).1 in
+    origin_known t distinct o (and_parts (is_written_origin o) (is_written_span span) (and_parts (nat_lt e (2 ^ 64)) (is_written_origin o && is_written_span span) values.1).1).0 h
 
 -- each origin names a known operation
 pub origins_known : (t : TraceValue) (version : Version) (lines : List (List ℕ)) (ss : List Statement) → AllPairs (λ (p q : Process). p.name ≢ q.name) t.processes → AreSaid version lines ss → filter is_of_process ss ≡ flat_map process_statements t.processes → list_all is_written_process t.processes ≡ true →
-    IsFaultless (λ (before : List (List ℕ)) (here : List ℕ). fault_of_line (has_version_2_lines version) t.processes here) lines → (p : Process) → Contains t.processes p → (op : Op) → Contains p.operations op → IsKnownOrigin t (origin_of op)
+    IsFaultless (λ (before : List (List ℕ)) (here : List ℕ). fault_of_line version t.processes here) lines → (p : Process) → Contains t.processes p → (op : Op) → Contains p.operations op → IsKnownOrigin t (origin_of op)
 origins_known t version lines ss distinct a e w f p c op d =
     let listed : Contains (flat_map process_statements t.processes) (op_statement op) = to_flat_map process_statements t.processes p (op_statement op) c (tail_in (Proc p.name) (map op_statement p.operations) (op_statement op) (to_map op_statement p.operations op d)) in
     let there : Contains ss (op_statement op) = (from_filter is_of_process ss (op_statement op) (subst (λ (l : List Statement). Contains l (op_statement op)) (sym e) listed)).0 in
@@ -150,16 +149,16 @@ same_references ss ps None h = refl
 same_references ss ps (Some s) h = λ i. if not (list_all (λ (r : List ℕ × List ℕ). same_place ss ps r.0 (place_of r.1) h i) (references_of s)) then Some NoSuchOp else if is_before_itself s then Some BeforeItself else None
 
 pub same_fault : (version : Version) (lines : List (List ℕ)) (ss : List Statement) (ps : List Process) (line : List ℕ) → AreSaid version lines ss → filter is_of_process ss ≡ flat_map process_statements ps →
-    line_reference_fault (kept lines) line ≡ fault_of_line (has_version_2_lines version) ps line
+    line_reference_fault (kept lines) line ≡ fault_of_line version ps line
 same_fault version lines ss ps line a h =
     ap (λ k. line_reference_fault k line) a.kept_lines
-    ∙ ap (λ (v : Version). if is_skipped (words_of line) then None else reference_fault (statements_of (has_version_2_lines v) (map words_for ss)) (statement_of (has_version_2_lines v) (words_of line))) (version_is version)
-    ∙ ap (λ l. if is_skipped (words_of line) then None else reference_fault l (statement_of (has_version_2_lines version) (words_of line))) (statements_said (has_version_2_lines version) ss a.said)
-    ∙ ap (λ f. if is_skipped (words_of line) then None else f) (same_references ss ps (statement_of (has_version_2_lines version) (words_of line)) h)
+    ∙ ap (λ (v : Version). if is_skipped (words_of line) then None else reference_fault (statements_of v (map words_for ss)) (statement_of v (words_of line))) (version_is version)
+    ∙ ap (λ l. if is_skipped (words_of line) then None else reference_fault l (statement_of version (words_of line))) (statements_said version ss a.said)
+    ∙ ap (λ f. if is_skipped (words_of line) then None else f) (same_references ss ps (statement_of version (words_of line)) h)
 
 -- a refusal by references is one of the text
 pub refused_by_references : (version : Version) (text : List ℕ) (ss : List Statement) (ps : List Process) (fault : PlacedFault TraceCause) → AreSaid version (lines_of text) ss → filter is_of_process ss ≡ flat_map process_statements ps → IsFaultless trace_line_fault (lines_of text) →
-    IsRefusedByReferences (has_version_2_lines version) ps text fault → IsRefusal (HasTraceFault text) fault
+    IsRefusedByReferences version ps text fault → IsRefusal (HasTraceFault text) fault
 refused_by_references version text ss ps OutOfMemory a h f r = tt
 refused_by_references version text ss ps (At cause line) a h f r = inr (inr (record {
   faultless = f;

@@ -1,5 +1,5 @@
 -- A line of a trace text, by its first words.
-use Rattle.std.proofs.Common.{◌≡◌, ℕ, ◌+◌, ◌<◌, ◌≤◌, List, [], ◌∷◌, ◌++◌, length, take, map, Bool, true, false, cond, not, ◌&&◌, refl, inl, ap, sym, ◌∙◌, arith, subst, append_assoc, append-nil, length-append}
+use Rattle.std.proofs.Common.{◌≡◌, ℕ, ◌+◌, ◌<◌, ◌≤◌, List, [], ◌∷◌, ◌++◌, length, take, map, Bool, true, false, cond, not, refl, inl, ap, sym, ◌∙◌, arith, subst, append_assoc, append-nil, length-append}
 use Rattle.std.specs.Prelude.{Some, None, if◌then◌else◌}
 use Rattle.std.specs.Cmp.Lexicographic.{pointwise}
 use Rattle.std.specs.List.{filter, list_any}
@@ -28,10 +28,10 @@ use Rattle.trace_text.specs.TraceText.{header_line}
 use Rattle.trace_text.proofs.LineWords.SaidLemmas.{said_first, words_said, statements_said}
 use Rattle.trace_text.specs.declared.version.Version.{Version}
 use Rattle.trace_text.specs.declared.version.Version.TheVariants.{One, Two, Three}
-use Rattle.trace_text.specs.Version.{has_version_2_lines, limits_of}
+use Rattle.trace_text.specs.Version.{limits_of}
 
 -- the first words suffice to see whether a line is skipped
-pub skipped_first : (words : List (List ℕ)) → is_skipped (take 8 words) ≡ is_skipped words
+pub skipped_first : (words : List (List ℕ)) → is_skipped (take 11 words) ≡ is_skipped words
 skipped_first [] = refl
 skipped_first (w ∷ ws) = refl
 
@@ -61,30 +61,30 @@ version_is Two = refl
 version_is Three = refl
 
 -- the fault of words after statements
-pub fault_said : (version : Version) (before : List (List ℕ)) (ss : List Statement) (words : List (List ℕ)) → AreSaid version before ss → words_fault (kept before) words ≡ said_fault (limits_of version) ss (statement_of (has_version_2_lines version) words)
+pub fault_said : (version : Version) (before : List (List ℕ)) (ss : List Statement) (words : List (List ℕ)) → AreSaid version before ss → words_fault (kept before) words ≡ said_fault (limits_of version) ss (statement_of version words)
 fault_said version before ss words a =
     ap (λ k. words_fault k words) a.kept_lines
-    ∙ ap (λ (v : Version). said_fault (limits_of v) (statements_of (has_version_2_lines v) (map words_for ss)) (statement_of (has_version_2_lines v) words)) (version_is version)
-    ∙ ap (λ l. said_fault (limits_of version) l (statement_of (has_version_2_lines version) words)) (statements_said (has_version_2_lines version) ss a.said)
+    ∙ ap (λ (v : Version). said_fault (limits_of v) (statements_of v (map words_for ss)) (statement_of v words)) (version_is version)
+    ∙ ap (λ l. said_fault (limits_of version) l (statement_of version words)) (statements_said version ss a.said)
 
 -- a line is refused by its first words
 pub line_refused : (version : Version) (before : List (List ℕ)) (ss : List Statement) (line : List ℕ) (refusal : PlainFault TraceCause) → AreSaid version before ss → is_skipped (words_of line) ≡ false → list_any is_high line ≡ false →
-    IsRefusedFor (said_fault (limits_of version) ss (statement_of (has_version_2_lines version) (take 8 (words_of line)))) refusal → IsRefusedFor (trace_line_fault before line) refusal
+    IsRefusedFor (said_fault (limits_of version) ss (statement_of version (take 11 (words_of line)))) refusal → IsRefusedFor (trace_line_fault before line) refusal
 line_refused version before ss line refusal a s h r = subst (λ f. IsRefusedFor f refusal)
-    (ap (said_fault (limits_of version) ss) (said_first (has_version_2_lines version) (words_of line)) ∙ sym (fault_said version before ss (words_of line) a) ∙ sym (line_fault before line s h)) r
+    (ap (said_fault (limits_of version) ss) (said_first version (words_of line)) ∙ sym (fault_said version before ss (words_of line) a) ∙ sym (line_fault before line s h)) r
 
 -- a line is taken by its first words
 pub line_taken : (version : Version) (before : List (List ℕ)) (ss : List Statement) (line : List ℕ) (new : TraceReader) → AreSaid version before ss → is_skipped (words_of line) ≡ false → list_any is_high line ≡ false →
-    TakesWords version ss (take 8 (words_of line)) new → TakesLine version before line new
+    TakesWords version ss (take 11 (words_of line)) new → TakesLine version before line new
 line_taken version before ss line new a s h t =
-    let says : statement_of (has_version_2_lines version) (words_of line) ≡ Some t.s = sym (said_first (has_version_2_lines version) (words_of line)) ∙ t.says in
-    let words : words_of line ≡ words_for t.s = words_said (has_version_2_lines version) (words_of line) t.s says in
+    let says : statement_of version (words_of line) ≡ Some t.s = sym (said_first version (words_of line)) ∙ t.says in
+    let words : words_of line ≡ words_for t.s = words_said version (words_of line) t.s says in
     record {
       faultless = line_fault before line s h ∙ fault_said version before ss (words_of line) a ∙ ap (said_fault (limits_of version) ss) says ∙ t.faultless;
       ss = ss ++ t.s ∷ [];
       said = record {
         kept_lines = kept_more before line false s ∙ (λ i. a.kept_lines i ++ words i ∷ []) ∙ ap (λ l. header_line version ∷ l) (sym (map-append words_for ss (t.s ∷ [])));
-        said = map-append (saying (has_version_2_lines version)) ss (t.s ∷ []) ∙ (λ i. a.said i ++ (ap (statement_of (has_version_2_lines version)) (sym words) ∙ says) i ∷ []) ∙ sym (map-append Some ss (t.s ∷ []));
+        said = map-append (saying version) ss (t.s ∷ []) ∙ (λ i. a.said i ++ (ap (statement_of version) (sym words) ∙ says) i ∷ []) ∙ sym (map-append Some ss (t.s ∷ []));
         faultless = faultless_push (statement_fault (limits_of version)) ss t.s a.faultless t.faultless;
       };
       progress = t.progress;

@@ -69,27 +69,27 @@ init_repeat : (a w : List ℕ) (y : Statement) → repeats (Init a w) y ≡ true
 init_repeat a w (Init b v) h = (b, v, refl, (bytes_eq-Decides b a).0 h)
 init_repeat a w (Final b v) h = absurd (cc)
 init_repeat a w (Proc name) h = absurd (cc)
-init_repeat a w (Read b v source) h = absurd (cc)
-init_repeat a w (Write b v) h = absurd (cc)
-init_repeat a w (Update b v u source) h = absurd (cc)
+init_repeat a w (Read b v source times) h = absurd (cc)
+init_repeat a w (Write b v times) h = absurd (cc)
+init_repeat a w (Update b v u source times) h = absurd (cc)
 init_repeat a w (Before p i q j) h = absurd (cc)
 
 final_repeat : (a w : List ℕ) (y : Statement) → repeats (Final a w) y ≡ true → (b : List ℕ) × (v : List ℕ) × (y ≡ Final b v) × (b ≡ a)
 final_repeat a w (Init b v) h = absurd (cc)
 final_repeat a w (Final b v) h = (b, v, refl, (bytes_eq-Decides b a).0 h)
 final_repeat a w (Proc name) h = absurd (cc)
-final_repeat a w (Read b v source) h = absurd (cc)
-final_repeat a w (Write b v) h = absurd (cc)
-final_repeat a w (Update b v u source) h = absurd (cc)
+final_repeat a w (Read b v source times) h = absurd (cc)
+final_repeat a w (Write b v times) h = absurd (cc)
+final_repeat a w (Update b v u source times) h = absurd (cc)
 final_repeat a w (Before p i q j) h = absurd (cc)
 
 proc_repeat : (name : List ℕ) (y : Statement) → repeats (Proc name) y ≡ true → (b : List ℕ) × (y ≡ Proc b) × (b ≡ name)
 proc_repeat name (Init b v) h = absurd (cc)
 proc_repeat name (Final b v) h = absurd (cc)
 proc_repeat name (Proc b) h = (b, refl, (bytes_eq-Decides b name).0 h)
-proc_repeat name (Read b v source) h = absurd (cc)
-proc_repeat name (Write b v) h = absurd (cc)
-proc_repeat name (Update b v u source) h = absurd (cc)
+proc_repeat name (Read b v source times) h = absurd (cc)
+proc_repeat name (Write b v times) h = absurd (cc)
+proc_repeat name (Update b v u source times) h = absurd (cc)
 proc_repeat name (Before p i q j) h = absurd (cc)
 
 -- the statements of which there is one each, as what makes them
@@ -130,9 +130,9 @@ unrepeated front (Proc name) back ps initial finals once = false_from_ne_true (l
     let second : Proc made.second.name ≡ Proc name = made.second_is in
     let two : made.second.name ≡ name = cc in
     made.apart (one ∙ other.2 ∙ sym two))
-unrepeated front (Read a w source) back ps initial finals once = none_passes front
-unrepeated front (Write a w) back ps initial finals once = none_passes front
-unrepeated front (Update a w v source) back ps initial finals once = none_passes front
+unrepeated front (Read a w source times) back ps initial finals once = none_passes front
+unrepeated front (Write a w times) back ps initial finals once = none_passes front
+unrepeated front (Update a w v source times) back ps initial finals once = none_passes front
 unrepeated front (Before p i q j) back ps initial finals once = none_passes front
 
 -- there is room for one more where there are few with it

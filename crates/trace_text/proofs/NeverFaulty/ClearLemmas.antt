@@ -9,19 +9,20 @@ use Rattle.trace_text.specs.declared.entry.Entry.{Entry}
 use Rattle.trace_text.specs.declared.entry.Entry.TheVariants.{Initial as InitialEntry, Final as FinalEntry, Process as ProcessEntry, Operation as OperationEntry, Before as BeforeEntry}
 use Rattle.trace_semantics.specs.declared.trace.Process.{Process}
 use Rattle.trace_text.specs.declared.trace_fault.TraceCause.{TraceCause}
-use Rattle.trace_text.specs.declared.trace_fault.TraceCause.TheVariants.{BadName, BadNumber, OpOutsideProc, LateHeaderLine, TooManyProcs, TooManyOps, TooManyLocations, TooManyBefore}
+use Rattle.trace_text.specs.declared.trace_fault.TraceCause.TheVariants.{BadName, BadNumber, OpOutsideProc, LateHeaderLine, TooManyProcs, TooManyOps, TooManyLocations, TooManyBefore, EndsBeforeStart}
 use Rattle.trace_text.specs.Entry.{statement_for, has_numbers}
 use Rattle.trace_text.specs.Gathered.{is_init, is_final, is_of_process, process_statements}
 use Rattle.trace_semantics.specs.Locations.{distinct, holds_name}
 use Rattle.trace_semantics.specs.Names.{is_name}
-use Rattle.trace_semantics.specs.Operation.{location_of, origin_of}
+use Rattle.trace_semantics.specs.Operation.{location_of, origin_of, span_of}
 use Rattle.trace_text.specs.Statement.{Statement, Proc}
-use Rattle.trace_semantics.specs.Trace.{TraceValue, IsTrace, IsKnownOrigin, operation_at, locations_of}
-use Rattle.trace_text.specs.TraceFault.{is_proc, is_operation, is_before, is_value_line, names_of, location_named, repeats, twice_cause, limit_fault, is_location_too_many, or_else, shape_fault, statement_fault}
+use Rattle.trace_semantics.specs.Trace.{TraceValue, IsTrace, IsSpan, IsKnownOrigin, operation_at, locations_of}
+use Rattle.trace_text.specs.TraceFault.{is_proc, is_operation, is_before, is_value_line, names_of, location_named, times_of, are_turned, repeats, twice_cause, limit_fault, is_location_too_many, or_else, shape_fault, statement_fault}
 use Rattle.trace_text.proofs.NeverFaulty.ApartLemmas.{unrepeated, room, filter_cut, from_filter_map}
 use Rattle.trace_text.proofs.Reading.CountLemmas.{procs_within, no_proc, count_procs, count_operations}
 use Rattle.trace_semantics.proofs.ElementLemmas.{head_in, none_in, cases_in, in_middle, passes_some, from_filter, to_map, to_flat_map}
 use Rattle.trace_semantics.proofs.DistinctLemmas.{few_named}
+use Rattle.trace_text.proofs.LineWords.SpanLemmas.{op_straight}
 use Rattle.trace_text.proofs.Reading.LocationLemmas.{op_named}
 use Rattle.trace_text.proofs.Reading.SeenLemmas.{distinct_push}
 use Rattle.trace_text.proofs.NeverFaulty.StatedLemmas.{IsHad, AreStated}
@@ -110,9 +111,9 @@ origin_within limits t fits Initial h = refl
 origin_within limits t fits (Operation n) h = name_within limits t fits n h
 
 op_within : (limits : Limits) (t : TraceValue) → FitsIn limits t → (op : Op) → IsKnownOrigin t (origin_of op) → is_entry_within limits (OperationEntry op) ≡ true
-op_within limits t fits (ReadOp a d o) h = origin_within limits t fits o h
-op_within limits t fits (WriteOp a d) h = refl
-op_within limits t fits (UpdateOp a d e o) h = origin_within limits t fits o h
+op_within limits t fits (ReadOp a d o span) h = origin_within limits t fits o h
+op_within limits t fits (WriteOp a d span) h = refl
+op_within limits t fits (UpdateOp a d e o span) h = origin_within limits t fits o h
 
 entry_within : (limits : Limits) (t : TraceValue) → IsTrace t → FitsIn limits t → (e : Entry) → Has t e → is_entry_within limits e ≡ true
 entry_within limits t ok fits (InitialEntry a d) h = refl
@@ -123,6 +124,15 @@ entry_within limits t ok fits (OperationEntry op) h = op_within limits t fits op
 entry_within limits t ok fits (BeforeEntry m n) h =
     let known = All-contains (λ (pair : OpName × OpName). IsSome (operation_at t pair.0) × IsSome (operation_at t pair.1)) t.before (m, n) ok.known h in
     and_from (nat_le m.place (max_place limits)) (nat_le n.place (max_place limits)) (name_within limits t fits m known.0) (name_within limits t fits n known.1)
+
+-- the times that an entry says are not turned
+entry_straight : (t : TraceValue) (e : Entry) → IsTrace t → is_writable e ≡ true → Has t e → are_turned (times_of (statement_for e)) ≡ false
+entry_straight t (InitialEntry a d) ok w h = refl
+entry_straight t (FinalEntry a d) ok w h = refl
+entry_straight t (ProcessEntry name) ok w h = refl
+entry_straight t (OperationEntry op) ok w h = op_straight op w
+    (All-contains (λ (o : Op). IsSpan (span_of o)) h.0.operations op (All-contains (λ (p : Process). All (λ (o : Op). IsSpan (span_of o)) p.operations) t.processes h.0 ok.spans h.1) h.2)
+entry_straight t (BeforeEntry m n) ok w h = refl
 
 -- a statement of the text, between those before it and those after it
 module _ (t : TraceValue) (version : Version) (body : List (List (List ℕ))) (ok : IsTrace t) (fits : FitsIn (limits_of version) t) (st : AreStated t version body) (front : List Statement) (s : Statement) (back : List Statement) (parts : st.ss ≡ front ++ s ∷ back) where
@@ -141,6 +151,9 @@ module _ (t : TraceValue) (version : Version) (body : List (List (List ℕ))) (o
   numbers : has_numbers (limits_of version) s ≡ true
   numbers = ap (has_numbers (limits_of version)) (sym had.2) ∙ entry_numbers (limits_of version) had.0 writable (entry_within (limits_of version) t ok fits had.0 had.1)
 
+  straight : are_turned (times_of s) ≡ false
+  straight = ap (λ (u : Statement). are_turned (times_of u)) (sym had.2) ∙ entry_straight t had.0 ok writable had.1
+
   in_time : (is_value_line s && list_any is_proc front) ≡ false
   in_time = never_and (is_value_line s) (list_any is_proc front) (λ (v : is_value_line s ≡ true). false_from_ne_true (list_any is_proc front) (λ (p : list_any is_proc front ≡ true).
       let none = (or_parts (is_value_line s) (list_any is_value_line back) (st.in_front front (s ∷ back) parts p)).0 in
@@ -156,7 +169,8 @@ module _ (t : TraceValue) (version : Version) (body : List (List (List ℕ))) (o
   shape = if_not (is_value_line s && list_any is_proc front) LateHeaderLine _ in_time
       (if_not (is_operation s && not (list_any is_proc front)) OpOutsideProc _ inside
       (if_not (not (list_all is_name (names_of s))) BadName _ (ap not names)
-      (if_not (not (has_numbers (limits_of version) s)) BadNumber None (ap not numbers) refl)))
+      (if_not (not (has_numbers (limits_of version) s)) BadNumber _ (ap not numbers)
+      (if_not (are_turned (times_of s)) EndsBeforeStart None straight refl))))
 
   once : list_any (repeats s) front ≡ false
   once = unrepeated front s back t.processes st.initial st.finals (record {

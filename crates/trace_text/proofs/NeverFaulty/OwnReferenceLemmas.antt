@@ -46,9 +46,9 @@ origin_among t Initial w h = refl
 origin_among t (Operation n) w h = one_among t n w h
 
 op_among : (t : TraceValue) (op : Op) → is_written_op op ≡ true → IsKnownOrigin t (origin_of op) → list_all (is_among t.processes) (references_of (op_statement op)) ≡ true
-op_among t (ReadOp a d o) w h = origin_among t o (read_origin a d o w) h
-op_among t (WriteOp a d) w h = refl
-op_among t (UpdateOp a d e o) w h = origin_among t o (update_origin a d e o w) h
+op_among t (ReadOp a d o span) w h = origin_among t o (read_origin a d o span w) h
+op_among t (WriteOp a d span) w h = refl
+op_among t (UpdateOp a d e o span) w h = origin_among t o (update_origin a d e o span w) h
 
 -- an entry of the trace names operations of it
 entry_among : (t : TraceValue) (e : Entry) → IsTrace t → Has t e → list_all (is_among t.processes) (references_of (statement_for e)) ≡ true
@@ -63,9 +63,9 @@ entry_among t (BeforeEntry m n) ok h =
     and_from (is_among t.processes (m.process, decimal m.place)) (is_among t.processes (n.process, decimal n.place) && true) (among t m parts.0 known.0) (one_among t n parts.1 known.1)
 
 op_not_itself : (op : Op) → is_before_itself (op_statement op) ≡ false
-op_not_itself (ReadOp a d o) = refl
-op_not_itself (WriteOp a d) = refl
-op_not_itself (UpdateOp a d e o) = refl
+op_not_itself (ReadOp a d o span) = refl
+op_not_itself (WriteOp a d span) = refl
+op_not_itself (UpdateOp a d e o span) = refl
 
 entry_not_itself : (t : TraceValue) (e : Entry) → IsTrace t → Has t e → is_before_itself (statement_for e) ≡ false
 entry_not_itself t (InitialEntry a d) ok h = refl

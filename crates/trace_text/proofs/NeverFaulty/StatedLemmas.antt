@@ -1,5 +1,5 @@
 -- The statements of a text that spells a trace.
-use Rattle.std.proofs.Common.{◌≡◌, ℕ, ◌≤◌, List, [], ◌∷◌, ◌++◌, length, map, Bool, true, false, cond, ◌||◌, codes, refl, inl, inr, ap, sym, ◌∙◌, subst, arith}
+use Rattle.std.proofs.Common.{◌≡◌, ℕ, ◌≤◌, List, [], ◌∷◌, ◌++◌, length, map, true, false, cond, ◌||◌, codes, refl, inl, inr, ap, sym, ◌∙◌, subst, arith}
 use Rattle.std.specs.Prelude.{Some}
 use Rattle.std.specs.List.{Contains, filter, flat_map, list_any}
 use Rattle.std.specs.List.Sorted.{IsPermutation}
@@ -12,7 +12,7 @@ use Rattle.trace_text.specs.Read.{saying}
 use Rattle.trace_text.specs.Statement.{Statement, Proc, statement_of, words_for}
 use Rattle.trace_semantics.specs.Trace.{TraceValue, IsTrace, IsOneEach, is_written_value}
 use Rattle.trace_text.specs.TraceFault.{is_proc, is_before, is_value_line, statements_of}
-use Rattle.trace_text.specs.TraceText.{SpellsTrace, init_line, final_line, begins, is_process_line, needs_version_2}
+use Rattle.trace_text.specs.TraceText.{SpellsTrace, init_line, final_line, begins, is_process_line}
 use Rattle.trace_text.proofs.Reading.ArrangedLemmas.{init_lines, final_lines}
 use Rattle.trace_semantics.proofs.ElementLemmas.{head_in, tail_in, none_in, cases_in, pass_all, from_map, from_filter, from_flat_map}
 use Rattle.trace_text.proofs.Reading.GatheredLemmas.{op_kind}
@@ -23,7 +23,7 @@ use Rattle.trace_text.proofs.LineWords.SpellLemmas.{filter_lines, any_line, of_p
 use Rattle.trace_text.proofs.NeverFaulty.ToldLemmas.{Has, are_told, line_tells, had_said, has_writable}
 use Rattle.trace_semantics.specs.Limits.{max_pairs}
 use Rattle.trace_text.specs.declared.version.Version.{Version}
-use Rattle.trace_text.specs.Version.{has_version_2_lines, limits_of}
+use Rattle.trace_text.specs.Version.{limits_of}
 
 -- the statement is of an entry of the trace
 abbrev pub IsHad : TraceValue → Statement → Type 0
@@ -33,7 +33,7 @@ IsHad t s = (e : Entry) × Has t e × (statement_for e ≡ s)
 pub record AreStated (t : TraceValue) (version : Version) (body : List (List (List ℕ))) : Type 0 where
   pub ss : List Statement
   pub words : body ≡ map words_for ss
-  pub said : map (saying (has_version_2_lines version)) ss ≡ map Some ss
+  pub said : map (saying version) ss ≡ map Some ss
   pub each : (s : Statement) → Contains ss s → IsHad t s
   pub processes : filter is_of_process ss ≡ flat_map process_statements t.processes
   pub initial : List (List ℕ × ℕ)
@@ -100,12 +100,12 @@ from_finals (ProcessEntry name ∷ es) x c = tail_in (ProcessEntry name) es (Fin
 from_finals (OperationEntry op ∷ es) x c = tail_in (OperationEntry op) es (FinalEntry x.0 x.1) (from_finals es x c)
 from_finals (BeforeEntry m n ∷ es) x c = tail_in (BeforeEntry m n) es (FinalEntry x.0 x.1) (from_finals es x c)
 
-pub said_map : (two : Bool) (ss : List Statement) → ((s : Statement) → Contains ss s → statement_of two (words_for s) ≡ Some s) → map (saying two) ss ≡ map Some ss
-said_map two [] h = refl
-said_map two (s ∷ ss) h = λ i. h s (head_in s ss) i ∷ said_map two ss (λ u c. h u (tail_in s ss u c)) i
+pub said_map : (version : Version) (ss : List Statement) → ((s : Statement) → Contains ss s → statement_of version (words_for s) ≡ Some s) → map (saying version) ss ≡ map Some ss
+said_map version [] h = refl
+said_map version (s ∷ ss) h = λ i. h s (head_in s ss) i ∷ said_map version ss (λ u c. h u (tail_in s ss u c)) i
 
-had_says : (two : Bool) (t : TraceValue) (v : two ≡ false → needs_version_2 t ≡ false) (s : Statement) → IsHad t s → statement_of two (words_for s) ≡ Some s
-had_says two t v s (e, h, same) = subst (λ (u : Statement). statement_of two (words_for u) ≡ Some u) same (had_said two t e v h)
+had_says : (text : List ℕ) (t : TraceValue) (h : SpellsTrace text t) (s : Statement) → IsHad t s → statement_of h.version (words_for s) ≡ Some s
+had_says text t h s (e, has, same) = subst (λ (u : Statement). statement_of h.version (words_for u) ≡ Some u) same (had_said h.version t e h.lines_known h.times_known has)
 
 process_had : (t : TraceValue) (s : Statement) → Contains (flat_map process_statements t.processes) s → IsHad t s
 process_had t s c =
@@ -116,8 +116,8 @@ process_had t s c =
     ]
 
 -- statements of the same words are the same
-same_statements : (two : Bool) (xs ys : List Statement) → map (saying two) xs ≡ map Some xs → map (saying two) ys ≡ map Some ys → map words_for xs ≡ map words_for ys → xs ≡ ys
-same_statements two xs ys h k e = sym (statements_said two xs h) ∙ ap (statements_of two) e ∙ statements_said two ys k
+same_statements : (version : Version) (xs ys : List Statement) → map (saying version) xs ≡ map Some xs → map (saying version) ys ≡ map Some ys → map words_for xs ≡ map words_for ys → xs ≡ ys
+same_statements version xs ys h k e = sym (statements_said version xs h) ∙ ap (statements_of version) e ∙ statements_said version ys k
 
 lines_in_front : (text : List ℕ) (t : TraceValue) (h : SpellsTrace text t) (front behind : List Statement) → h.body ≡ map words_for (front ++ behind) → list_any is_proc front ≡ true → list_any is_value_line behind ≡ false
 lines_in_front text t h front behind e p =
@@ -142,11 +142,11 @@ stated text t ok h =
     record {
       ss = ss;
       words = told.words;
-      said = said_map (has_version_2_lines h.version) ss (λ s c. had_says (has_version_2_lines h.version) t h.lines_known s (each s c));
+      said = said_map h.version ss (λ s c. had_says text t h s (each s c));
       each = each;
-      processes = same_statements (has_version_2_lines h.version) (filter is_of_process ss) (flat_map process_statements t.processes)
-          (said_map (has_version_2_lines h.version) (filter is_of_process ss) (λ s c. had_says (has_version_2_lines h.version) t h.lines_known s (each s (from_filter is_of_process ss s c).0)))
-          (said_map (has_version_2_lines h.version) (flat_map process_statements t.processes) (λ s c. had_says (has_version_2_lines h.version) t h.lines_known s (process_had t s c)))
+      processes = same_statements h.version (filter is_of_process ss) (flat_map process_statements t.processes)
+          (said_map h.version (filter is_of_process ss) (λ s c. had_says text t h s (each s (from_filter is_of_process ss s c).0)))
+          (said_map h.version (flat_map process_statements t.processes) (λ s c. had_says text t h s (process_had t s c)))
           (sym (filter_lines is_process_line is_of_process of_process ss) ∙ ap (filter is_process_line) (sym told.words) ∙ h.processes ∙ sym (processes_words t.processes));
       initial = initial_of es;
       initial_are = initial_filtered es;

@@ -1,6 +1,6 @@
 -- What the lines of a text that spells a trace say: each is of an entry of the trace.
 use Rattle.std.proofs.Common.{◌≡◌, ℕ, List, [], ◌∷◌, length, map, Bool, true, false, not, ◌||◌, codes, refl, inl, inr, ap, sym, ◌∙◌, subst, arith}
-use Rattle.std.specs.Prelude.{Some, ◌==◌}
+use Rattle.std.specs.Prelude.{Option, Some, None, ◌==◌, if◌then◌else◌}
 use Rattle.std.specs.List.{Contains, filter, flat_map, list_any, list_all}
 use Rattle.std.specs.List.Sorted.{IsPermutation}
 use Rattle.std.proofs.lemmas.Bool.{and_parts, or_parts, or_cases, cases_Bool, not_from_false, ne_eqb}
@@ -14,11 +14,14 @@ use Rattle.trace_semantics.specs.declared.operation.Origin.TheVariants.{Any, Ini
 use Rattle.trace_semantics.specs.declared.trace.Process.{Process}
 use Rattle.trace_text.specs.Entry.{op_statement, statement_for}
 use Rattle.trace_semantics.specs.Names.{is_name}
-use Rattle.trace_text.specs.Statement.{statement_of, words_for}
+use Rattle.trace_text.specs.Statement.{Statement, words_for, untimed_statement, timed_statement, first_said, statement_of}
 use Rattle.trace_semantics.specs.Trace.{TraceValue, IsWritten, is_written_value, is_written_op, is_written_process, is_written_pair}
-use Rattle.trace_text.specs.TraceText.{SpellsTrace, init_line, final_line, proc_line, op_line, process_lines, before_line, begins, is_process_line, has_origin, needs_version_2}
+use Rattle.trace_text.specs.TraceText.{SpellsTrace, init_line, final_line, proc_line, op_line, process_lines, before_line, begins, is_process_line, has_origin, has_span, says_times, needs_version_2}
 use Rattle.trace_semantics.proofs.ElementLemmas.{head_in, tail_in, none_in, cases_in, all_pass, passes_some, from_map, to_filter, from_flat_map}
-use Rattle.trace_text.proofs.LineWords.SpellLemmas.{op_words}
+use Rattle.trace_text.specs.declared.version.Version.{Version}
+use Rattle.trace_text.specs.declared.version.Version.TheVariants.{One, Two, Three}
+use Rattle.trace_text.specs.Version.{has_version_2_lines, has_times}
+use Rattle.trace_text.proofs.LineWords.SpellLemmas.{op_words, timed_apart}
 use Rattle.trace_text.proofs.Writing.WritableLemmas.{is_writable}
 
 -- the trace has the entry
@@ -111,33 +114,71 @@ needs_two (ProcessEntry name) = false
 needs_two (OperationEntry op) = has_origin op
 needs_two (BeforeEntry first second) = true
 
-said_op : (two : Bool) (op : Op) → (two ≡ false → has_origin op ≡ false) → statement_of two (words_for (op_statement op)) ≡ Some (op_statement op)
-said_op true (ReadOp a d Any) h = refl
-said_op true (ReadOp a d Initial) h = refl
-said_op true (ReadOp a d (Operation n)) h = refl
-said_op true (WriteOp a d) h = refl
-said_op true (UpdateOp a d e Any) h = refl
-said_op true (UpdateOp a d e Initial) h = refl
-said_op true (UpdateOp a d e (Operation n)) h = refl
-said_op false (ReadOp a d Any) h = refl
-said_op false (ReadOp a d Initial) h = absurd (let clash : true ≡ false = h refl in cc)
-said_op false (ReadOp a d (Operation n)) h = absurd (let clash : true ≡ false = h refl in cc)
-said_op false (WriteOp a d) h = refl
-said_op false (UpdateOp a d e Any) h = refl
-said_op false (UpdateOp a d e Initial) h = absurd (let clash : true ≡ false = h refl in cc)
-said_op false (UpdateOp a d e (Operation n)) h = absurd (let clash : true ≡ false = h refl in cc)
+-- and only version 3 of it
+abbrev pub needs_times : Entry → Bool
+needs_times (InitialEntry location value) = false
+needs_times (FinalEntry location value) = false
+needs_times (ProcessEntry name) = false
+needs_times (OperationEntry op) = has_span op
+needs_times (BeforeEntry first second) = false
 
-said_pair : (two : Bool) (m n : OpName) → (two ≡ false → true ≡ false) → statement_of two (words_for (statement_for (BeforeEntry m n))) ≡ Some (statement_for (BeforeEntry m n))
-said_pair true m n h = refl
-said_pair false m n h = absurd (let clash : true ≡ false = h refl in cc)
+said_untimed : (two : Bool) (op : Op) → (two ≡ false → has_origin op ≡ false) → has_span op ≡ false → untimed_statement two (words_for (op_statement op)) ≡ Some (op_statement op)
+said_untimed two (ReadOp a d o (Some span)) h k = absurd (cc)
+said_untimed true (ReadOp a d Any None) h k = refl
+said_untimed true (ReadOp a d Initial None) h k = refl
+said_untimed true (ReadOp a d (Operation n) None) h k = refl
+said_untimed false (ReadOp a d Any None) h k = refl
+said_untimed false (ReadOp a d Initial None) h k = absurd (let clash : true ≡ false = h refl in cc)
+said_untimed false (ReadOp a d (Operation n) None) h k = absurd (let clash : true ≡ false = h refl in cc)
+said_untimed two (WriteOp a d (Some span)) h k = absurd (cc)
+said_untimed two (WriteOp a d None) h k = refl
+said_untimed two (UpdateOp a d e o (Some span)) h k = absurd (cc)
+said_untimed true (UpdateOp a d e Any None) h k = refl
+said_untimed true (UpdateOp a d e Initial None) h k = refl
+said_untimed true (UpdateOp a d e (Operation n) None) h k = refl
+said_untimed false (UpdateOp a d e Any None) h k = refl
+said_untimed false (UpdateOp a d e Initial None) h k = absurd (let clash : true ≡ false = h refl in cc)
+said_untimed false (UpdateOp a d e (Operation n) None) h k = absurd (let clash : true ≡ false = h refl in cc)
+
+said_timed : (op : Op) → has_span op ≡ true → timed_statement (words_for (op_statement op)) ≡ Some (op_statement op)
+said_timed (ReadOp a d o None) k = absurd (cc)
+said_timed (ReadOp a d Any (Some span)) k = refl
+said_timed (ReadOp a d Initial (Some span)) k = refl
+said_timed (ReadOp a d (Operation n) (Some span)) k = refl
+said_timed (WriteOp a d None) k = absurd (cc)
+said_timed (WriteOp a d (Some span)) k = refl
+said_timed (UpdateOp a d e o None) k = absurd (cc)
+said_timed (UpdateOp a d e Any (Some span)) k = refl
+said_timed (UpdateOp a d e Initial (Some span)) k = refl
+said_timed (UpdateOp a d e (Operation n) (Some span)) k = refl
+
+second_said : (o p : Option Statement) (s : Statement) (b : Bool) → o ≡ None → p ≡ Some s → b ≡ true → first_said o (if b then p else None) ≡ Some s
+second_said o p s true none there h = (λ i. first_said (none i) (there i))
+second_said o p s false none there h = absurd (cc)
+
+said_op : (version : Version) (op : Op) (b : Bool) → has_span op ≡ b → (has_version_2_lines version ≡ false → has_origin op ≡ false) → (has_times version ≡ false → has_span op ≡ false) → statement_of version (words_for (op_statement op)) ≡ Some (op_statement op)
+said_op version op false span origins spans =
+    ap (λ o. first_said o (if has_times version then timed_statement (words_for (op_statement op)) else None)) (said_untimed (has_version_2_lines version) op origins span)
+said_op version op true span origins spans =
+    second_said (untimed_statement (has_version_2_lines version) (words_for (op_statement op))) (timed_statement (words_for (op_statement op))) (op_statement op) (has_times version)
+    (timed_apart (has_version_2_lines version) op span) (said_timed op span) (shown (has_times version) spans)
+  where
+    shown : (b : Bool) → (b ≡ false → has_span op ≡ false) → b ≡ true
+    shown true h = refl
+    shown false h = absurd (let clash : true ≡ false = sym span ∙ h refl in cc)
+
+said_pair : (version : Version) (m n : OpName) → (has_version_2_lines version ≡ false → true ≡ false) → statement_of version (words_for (statement_for (BeforeEntry m n))) ≡ Some (statement_for (BeforeEntry m n))
+said_pair One m n h = absurd (let clash : true ≡ false = h refl in cc)
+said_pair Two m n h = refl
+said_pair Three m n h = refl
 
 -- the words of an entry say it
-said_entry : (two : Bool) (e : Entry) → (two ≡ false → needs_two e ≡ false) → statement_of two (words_for (statement_for e)) ≡ Some (statement_for e)
-said_entry two (InitialEntry a d) h = refl
-said_entry two (FinalEntry a d) h = refl
-said_entry two (ProcessEntry name) h = refl
-said_entry two (OperationEntry op) h = said_op two op h
-said_entry two (BeforeEntry m n) h = said_pair two m n h
+said_entry : (version : Version) (e : Entry) → (has_version_2_lines version ≡ false → needs_two e ≡ false) → (has_times version ≡ false → needs_times e ≡ false) → statement_of version (words_for (statement_for e)) ≡ Some (statement_for e)
+said_entry version (InitialEntry a d) h k = refl
+said_entry version (FinalEntry a d) h k = refl
+said_entry version (ProcessEntry name) h k = refl
+said_entry version (OperationEntry op) h k = said_op version op (has_span op) refl h k
+said_entry version (BeforeEntry m n) h k = said_pair version m n h
 
 some_pair : (pairs : List (OpName × OpName)) (pair : OpName × OpName) → Contains pairs pair → not (length pairs == 0) ≡ false → ⊥
 some_pair [] pair c h = none_in pair c
@@ -157,6 +198,17 @@ not_needed t (OperationEntry op) v h = no_origin (has_origin op) refl
     no_origin true e = absurd (let clash : true ≡ false = sym (passes_some (λ (p : Process). list_any has_origin p.operations) t.processes h.0 h.1 (passes_some has_origin h.0.operations op h.2 e)) ∙ none in cc)
 not_needed t (BeforeEntry m n) v h = absurd (some_pair t.before (m, n) h (or_parts (not (length t.before == 0)) (list_any (λ (p : Process). list_any has_origin p.operations) t.processes) v).0)
 
+times_not_needed : (t : TraceValue) (e : Entry) → says_times t ≡ false → Has t e → needs_times e ≡ false
+times_not_needed t (InitialEntry a d) v h = refl
+times_not_needed t (FinalEntry a d) v h = refl
+times_not_needed t (ProcessEntry name) v h = refl
+times_not_needed t (OperationEntry op) v h = no_times (has_span op) refl
+  where
+    no_times : (b : Bool) → has_span op ≡ b → b ≡ false
+    no_times false e = refl
+    no_times true e = absurd (let clash : true ≡ false = sym (passes_some (λ (p : Process). list_any has_span p.operations) t.processes h.0 h.1 (passes_some has_span h.0.operations op h.2 e)) ∙ v in cc)
+times_not_needed t (BeforeEntry m n) v h = refl
+
 -- an entry of the trace is said by its words, in the version of the text
-pub had_said : (two : Bool) (t : TraceValue) (e : Entry) → (two ≡ false → needs_version_2 t ≡ false) → Has t e → statement_of two (words_for (statement_for e)) ≡ Some (statement_for e)
-had_said two t e v h = said_entry two e (λ one. not_needed t e (v one) h)
+pub had_said : (version : Version) (t : TraceValue) (e : Entry) → (has_version_2_lines version ≡ false → needs_version_2 t ≡ false) → (has_times version ≡ false → says_times t ≡ false) → Has t e → statement_of version (words_for (statement_for e)) ≡ Some (statement_for e)
+had_said version t e v w h = said_entry version e (λ one. not_needed t e (v one) h) (λ early. times_not_needed t e (w early) h)

@@ -1,5 +1,5 @@
 -- A text that spells a trace has no fault.
-use Rattle.std.proofs.Common.{◌≡◌, ℕ, List, [], ◌∷◌, ◌++◌, map, Bool, true, false, refl, inl, inr, ap, sym, ◌∙◌, subst}
+use Rattle.std.proofs.Common.{◌≡◌, ℕ, List, [], ◌∷◌, ◌++◌, map, false, refl, inl, inr, ap, sym, ◌∙◌, subst}
 use Rattle.std.specs.Prelude.{Some, None, if◌then◌else◌}
 use Rattle.std.specs.List.{Contains}
 use Rattle.std.proofs.lemmas.Bool.{cases_Bool, cond-true}
@@ -32,20 +32,20 @@ use Rattle.trace_text.proofs.NeverFaulty.ToldLemmas.{has_writable}
 use Rattle.trace_text.proofs.Writing.WritableLemmas.{entry_low}
 use Rattle.trace_text.specs.declared.version.Version.{Version}
 use Rattle.trace_text.specs.declared.version.Version.TheVariants.{One, Two, Three}
-use Rattle.trace_text.specs.Version.{has_version_2_lines, limits_of}
+use Rattle.trace_text.specs.Version.{limits_of}
 
 header_low : (version : Version) → high_words (header_line version) ≡ false
 header_low One = refl
 header_low Two = refl
 header_low Three = refl
 
-header_says_nothing : (version : Version) → statement_of (has_version_2_lines version) (header_line version) ≡ None
+header_says_nothing : (version : Version) → statement_of version (header_line version) ≡ None
 header_says_nothing One = refl
 header_says_nothing Two = refl
 header_says_nothing Three = refl
 
 -- the header and the lines of statements without a fault have none
-words_clear : (version : Version) (ss : List Statement) → map (saying (has_version_2_lines version)) ss ≡ map Some ss → IsFaultless (statement_fault (limits_of version)) ss → IsFaultless words_fault (header_line version ∷ map words_for ss)
+words_clear : (version : Version) (ss : List Statement) → map (saying version) ss ≡ map Some ss → IsFaultless (statement_fault (limits_of version)) ss → IsFaultless words_fault (header_line version ∷ map words_for ss)
 words_clear version ss said clear [] words after e =
     let same : header_line version ≡ words = cc in
     ap (λ b. if b then None else Some Header) (ap is_header (sym same) ∙ header_passes version)
@@ -54,11 +54,11 @@ words_clear version ss said clear (header ∷ earlier) words after e =
     let rest : map words_for ss ≡ earlier ++ words ∷ after = cc in
     let cut = cut_map words_for ss earlier words after rest in
     let same_version : version_of header ≡ version = ap version_of (sym same) ∙ version_is version in
-    let each : (s : Statement) → Contains cut.before s → statement_of (has_version_2_lines version) (words_for s) ≡ Some s = λ (s : Statement) (c : Contains cut.before s).
-    said_each (has_version_2_lines version) ss s said (subst (λ (l : List Statement). Contains l s) (sym cut.parts) (Contains-append_left cut.before (cut.at ∷ cut.after) s c)) in
-    let here : statement_of (has_version_2_lines version) (words_for cut.at) ≡ Some cut.at = said_each (has_version_2_lines version) ss cut.at said (subst (λ (l : List Statement). Contains l cut.at) (sym cut.parts) (in_middle cut.before cut.at cut.after)) in
-    (λ i. said_fault (limits_of (same_version i)) (statements_of (has_version_2_lines (same_version i)) (cut.front_is i)) (statement_of (has_version_2_lines (same_version i)) (sym cut.here_is i)))
-    ∙ (λ i. said_fault (limits_of version) (statements_said (has_version_2_lines version) cut.before (said_map (has_version_2_lines version) cut.before each) i) (here i))
+    let each : (s : Statement) → Contains cut.before s → statement_of version (words_for s) ≡ Some s = λ (s : Statement) (c : Contains cut.before s).
+    said_each version ss s said (subst (λ (l : List Statement). Contains l s) (sym cut.parts) (Contains-append_left cut.before (cut.at ∷ cut.after) s c)) in
+    let here : statement_of version (words_for cut.at) ≡ Some cut.at = said_each version ss cut.at said (subst (λ (l : List Statement). Contains l cut.at) (sym cut.parts) (in_middle cut.before cut.at cut.after)) in
+    (λ i. said_fault (limits_of (same_version i)) (statements_of (same_version i) (cut.front_is i)) (statement_of (same_version i) (sym cut.here_is i)))
+    ∙ (λ i. said_fault (limits_of version) (statements_said version cut.before (said_map version cut.before each) i) (here i))
     ∙ clear cut.before cut.at cut.after cut.parts
 
 -- the lines of a text that spells a trace
@@ -93,12 +93,12 @@ module _ (text : List ℕ) (t : TraceValue) (ok : IsTrace t) (h : SpellsTrace te
     | inr says ↦ line_clear before line after e says
   ]
 
-  named_clear : (words : List (List ℕ)) → Contains (header_line h.version ∷ map words_for st.ss) words → fault_of_references t.processes (statement_of (has_version_2_lines h.version) words) ≡ None
+  named_clear : (words : List (List ℕ)) → Contains (header_line h.version ∷ map words_for st.ss) words → fault_of_references t.processes (statement_of h.version words) ≡ None
   named_clear words c = elim (cases_in (header_line h.version) (map words_for st.ss) words c) [
-    | inl e ↦ ap (λ ws. fault_of_references t.processes (statement_of (has_version_2_lines h.version) ws)) (sym e) ∙ ap (fault_of_references t.processes) (header_says_nothing h.version)
+    | inl e ↦ ap (λ ws. fault_of_references t.processes (statement_of h.version ws)) (sym e) ∙ ap (fault_of_references t.processes) (header_says_nothing h.version)
     | inr d ↦ (
         let at = from_map words_for st.ss words d in
-        ap (λ ws. fault_of_references t.processes (statement_of (has_version_2_lines h.version) ws)) (sym at.2) ∙ ap (fault_of_references t.processes) (said_each (has_version_2_lines h.version) st.ss at.0 st.said at.1) ∙ references_clear t at.0 ok (st.each at.0 at.1))
+        ap (λ ws. fault_of_references t.processes (statement_of h.version ws)) (sym at.2) ∙ ap (fault_of_references t.processes) (said_each h.version st.ss at.0 st.said at.1) ∙ references_clear t at.0 ok (st.each at.0 at.1))
   ]
 
   references_named : IsFaultless (λ (before : List (List ℕ)) (here : List ℕ). line_reference_fault (kept (lines_of text)) here) (lines_of text)
@@ -106,7 +106,7 @@ module _ (text : List ℕ) (t : TraceValue) (ok : IsTrace t) (h : SpellsTrace te
       same_fault h.version (lines_of text) st.ss t.processes line said st.processes
       ∙ elim (cases_Bool (is_skipped (words_of line))) [
         | inl skipped ↦ cond-true (is_skipped (words_of line)) None _ skipped
-        | inr says ↦ ap (λ b. if b then None else fault_of_references t.processes (statement_of (has_version_2_lines h.version) (words_of line))) says
+        | inr says ↦ ap (λ b. if b then None else fault_of_references t.processes (statement_of h.version (words_of line))) says
             ∙ named_clear (words_of line) (subst (λ (l : List (List (List ℕ))). Contains l (words_of line)) (sym (split before line after e says)) (in_middle (kept before) (words_of line) (kept after)))
       ]
 

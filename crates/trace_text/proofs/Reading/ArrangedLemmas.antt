@@ -28,11 +28,13 @@ use Rattle.trace_text.proofs.InOrder.OrderedLemmas.{one_each_moved, rising}
 use Rattle.trace_semantics.proofs.ElementLemmas.{from_map, to_map, all_pass, pass_all}
 use Rattle.trace_semantics.proofs.DistinctLemmas.{few_named}
 use Rattle.trace_text.proofs.InOrder.PairOrderLemmas.{IsKnownPair, pair_kept}
-use Rattle.trace_text.proofs.LineWords.SpellLemmas.{filter_lines, any_line, of_process, of_init, of_final, of_before, of_proc, of_value, processes_words, mapped_words, values_in_front, split_lines, no_origins, no_pairs}
+use Rattle.trace_text.proofs.LineWords.SpellLemmas.{filter_lines, any_line, of_process, of_init, of_final, of_before, of_proc, of_value, processes_words, mapped_words, values_in_front, split_lines, no_origins, no_spans, no_pairs}
+use Rattle.trace_text.proofs.LineWords.SpanLemmas.{span_right}
 use Rattle.trace_semantics.specs.declared.limits.Limits.{Limits}
 use Rattle.trace_semantics.specs.Limits.{max_operations, max_locations, max_pairs}
 use Rattle.trace_semantics.proofs.LimitLemmas.{operations_in, pairs_in, locations_in}
 use Rattle.trace_text.specs.declared.version.Version.{Version}
+use Rattle.trace_text.specs.declared.version.Version.TheVariants.{One, Two, Three}
 use Rattle.trace_text.specs.Version.{has_version_2_lines, limits_of}
 
 -- what is gathered from statements in their order, where none has a fault
@@ -54,12 +56,12 @@ all_moved : {A : Type 0} (p : A → Bool) (xs ys : List A) → IsPermutation xs 
 all_moved p xs ys m h = list_all-from_AllPass p ys (All-permutation (λ x. p x ≡ true) xs ys m (AllPass-from_list_all p xs h))
 
 -- the operations of the pairs are known
-pairs_of : (version : Version) (lines : List (List ℕ)) (ss : List Statement) (u t : TraceValue) → AreSaid version lines ss → AreGathered (limits_of version) ss u → IsArranged u t → IsFaultless (λ (before : List (List ℕ)) (here : List ℕ). fault_of_line (has_version_2_lines version) t.processes here) lines →
+pairs_of : (version : Version) (lines : List (List ℕ)) (ss : List Statement) (u t : TraceValue) → AreSaid version lines ss → AreGathered (limits_of version) ss u → IsArranged u t → IsFaultless (λ (before : List (List ℕ)) (here : List ℕ). fault_of_line version t.processes here) lines →
     (pair : OpName × OpName) → Contains u.before pair → IsKnownPair t pair
 pairs_of version lines ss u t r g a f = pairs_known t u.before version lines ss (subst (λ (ps : List Process). AllPairs (λ (p q : Process). p.name ≢ q.name) ps) (sym a.processes) g.processes_apart) r g.before g.written.before f
 
 -- what is gathered, in order, is a trace
-pub trace_arranged : (version : Version) (lines : List (List ℕ)) (ss : List Statement) (u t : TraceValue) → AreSaid version lines ss → AreGathered (limits_of version) ss u → IsArranged u t → IsFaultless (λ (before : List (List ℕ)) (here : List ℕ). fault_of_line (has_version_2_lines version) t.processes here) lines → IsTrace t
+pub trace_arranged : (version : Version) (lines : List (List ℕ)) (ss : List Statement) (u t : TraceValue) → AreSaid version lines ss → AreGathered (limits_of version) ss u → IsArranged u t → IsFaultless (λ (before : List (List ℕ)) (here : List ℕ). fault_of_line version t.processes here) lines → IsTrace t
 trace_arranged version lines ss u t r g a f =
     let distinct_ones = subst (λ (ps : List Process). AllPairs (λ (p q : Process). p.name ≢ q.name) ps) (sym a.processes) g.processes_apart in
     let processes : filter is_of_process ss ≡ flat_map process_statements t.processes = g.processes ∙ ap (flat_map process_statements) (sym a.processes) in
@@ -85,6 +87,7 @@ trace_arranged version lines ss u t r g a f =
       final_order = rising t.final_values a.final_sorted finals;
       before_apart = λ k d l. pairs_apart u.before version lines ss t.processes r g.before f (get_or t.before k d) (a.before.taken (get_or t.before k d) (Contains-get_or t.before k d l));
       origins = λ k d l j e m. origins_known t version lines ss distinct_ones r processes written_processes f (get_or t.processes k d) (Contains-get_or t.processes k d l) (get_or (get_or t.processes k d).operations j e) (Contains-get_or (get_or t.processes k d).operations j e m);
+      spans = λ k d l j e m. span_right (limits_of version) ss t.processes r.faultless processes written_processes (get_or t.processes k d) (Contains-get_or t.processes k d l) (get_or (get_or t.processes k d).operations j e) (Contains-get_or (get_or t.processes k d).operations j e m);
       before_order = a.before.rising;
       few_locations = omega (arith, locations_in (limits_of version), g.few_locations, few_named (locations_of t) (filter_map location_named ss) (named_by_some ss t u.initial u.final_values a.initial a.final_values g.initial g.final_values processes));
     }
@@ -101,9 +104,10 @@ none_left : (old new : List (OpName × OpName)) → old ≡ [] → length new �
 none_left old [] e l = refl
 none_left old (x ∷ xs) e l = absurd (omega (arith, l, ap length e))
 
-plain_version : (two : Bool) (ss : List Statement) (t : TraceValue) (pairs : List (OpName × OpName)) → map (saying two) ss ≡ map Some ss → filter is_of_process ss ≡ flat_map process_statements t.processes → filter is_before ss ≡ map before_statement pairs → length t.before ≤ length pairs → two ≡ false → needs_version_2 t ≡ false
-plain_version true ss t pairs h p b l e = absurd (cc)
-plain_version false ss t pairs h p b l e =
+plain_version : (version : Version) (ss : List Statement) (t : TraceValue) (pairs : List (OpName × OpName)) → map (saying version) ss ≡ map Some ss → filter is_of_process ss ≡ flat_map process_statements t.processes → filter is_before ss ≡ map before_statement pairs → length t.before ≤ length pairs → has_version_2_lines version ≡ false → needs_version_2 t ≡ false
+plain_version Two ss t pairs h p b l e = absurd (cc)
+plain_version Three ss t pairs h p b l e = absurd (cc)
+plain_version One ss t pairs h p b l e =
     (λ i. not (length (none_left pairs t.before (no_pairs ss pairs h b) l i) == 0) || no_origins ss t.processes h p i)
 
 -- the lines of a kind are those of what is gathered
@@ -129,7 +133,7 @@ same_lines t old new lines e a known words = (
 )
 
 -- the text of these lines spells it
-pub spells_arranged : (version : Version) (text : List ℕ) (ss : List Statement) (u t : TraceValue) → AreSaid version (lines_of text) ss → AreGathered (limits_of version) ss u → IsArranged u t → IsFaultless (λ (before : List (List ℕ)) (here : List ℕ). fault_of_line (has_version_2_lines version) t.processes here) (lines_of text) → SpellsTrace text t
+pub spells_arranged : (version : Version) (text : List ℕ) (ss : List Statement) (u t : TraceValue) → AreSaid version (lines_of text) ss → AreGathered (limits_of version) ss u → IsArranged u t → IsFaultless (λ (before : List (List ℕ)) (here : List ℕ). fault_of_line version t.processes here) (lines_of text) → SpellsTrace text t
 spells_arranged version text ss u t r g a f =
     let before = before_lines ss u.before g.before in
     let processes : filter is_of_process ss ≡ flat_map process_statements t.processes = g.processes ∙ ap (flat_map process_statements) (sym a.processes) in
@@ -143,7 +147,8 @@ spells_arranged version text ss u t r g a f =
       in_front = λ front behind e p. lines_in_front (limits_of version) ss front behind r.faultless e p;
       before = same_lines t u.before t.before (filter (begins (codes "before")) (map words_for ss)) before a.before (pairs_of version (lines_of text) ss u t r g a f);
       few_before = omega (arith, g.few_before, ap length before, length-map u.before before_line, ap length g.before, length-map u.before before_statement);
-      lines_known = plain_version (has_version_2_lines version) ss t u.before r.said processes g.before a.before.few;
+      lines_known = plain_version version ss t u.before r.said processes g.before a.before.few;
+      times_known = λ without. no_spans version ss t.processes without r.said processes;
       fits = record {
         few_operations = omega (arith, g.few_operations, count_operations ss t.processes processes);
         few_locations = omega (arith, g.few_locations, few_named (locations_of t) (filter_map location_named ss) (named_by_some ss t u.initial u.final_values a.initial a.final_values g.initial g.final_values processes));

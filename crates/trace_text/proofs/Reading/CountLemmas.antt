@@ -15,9 +15,9 @@ procs_within [] = refl
 procs_within (Init a d ∷ ss) = procs_within ss
 procs_within (Final a d ∷ ss) = procs_within ss
 procs_within (Proc name ∷ ss) = ap (λ t. Proc name ∷ t) (procs_within ss)
-procs_within (Read a d source ∷ ss) = procs_within ss
-procs_within (Write a d ∷ ss) = procs_within ss
-procs_within (Update a d e source ∷ ss) = procs_within ss
+procs_within (Read a d source times ∷ ss) = procs_within ss
+procs_within (Write a d times ∷ ss) = procs_within ss
+procs_within (Update a d e source times ∷ ss) = procs_within ss
 procs_within (Before p i q j ∷ ss) = procs_within ss
 
 operations_within : (ss : List Statement) → filter is_operation ss ≡ filter is_operation (filter is_of_process ss)
@@ -25,22 +25,22 @@ operations_within [] = refl
 operations_within (Init a d ∷ ss) = operations_within ss
 operations_within (Final a d ∷ ss) = operations_within ss
 operations_within (Proc name ∷ ss) = operations_within ss
-operations_within (Read a d source ∷ ss) = ap (λ t. Read a d source ∷ t) (operations_within ss)
-operations_within (Write a d ∷ ss) = ap (λ t. Write a d ∷ t) (operations_within ss)
-operations_within (Update a d e source ∷ ss) = ap (λ t. Update a d e source ∷ t) (operations_within ss)
+operations_within (Read a d source times ∷ ss) = ap (λ t. Read a d source times ∷ t) (operations_within ss)
+operations_within (Write a d times ∷ ss) = ap (λ t. Write a d times ∷ t) (operations_within ss)
+operations_within (Update a d e source times ∷ ss) = ap (λ t. Update a d e source times ∷ t) (operations_within ss)
 operations_within (Before p i q j ∷ ss) = operations_within ss
 
 pub no_proc : (ops : List Op) (ss : List Statement) → filter is_proc (map op_statement ops ++ ss) ≡ filter is_proc ss
 no_proc [] ss = refl
-no_proc (ReadOp a d o ∷ ops) ss = no_proc ops ss
-no_proc (WriteOp a d ∷ ops) ss = no_proc ops ss
-no_proc (UpdateOp a d e o ∷ ops) ss = no_proc ops ss
+no_proc (ReadOp a d o span ∷ ops) ss = no_proc ops ss
+no_proc (WriteOp a d span ∷ ops) ss = no_proc ops ss
+no_proc (UpdateOp a d e o span ∷ ops) ss = no_proc ops ss
 
 operations_counted : (ops : List Op) (ss : List Statement) → length (filter is_operation (map op_statement ops ++ ss)) ≡ length ops + length (filter is_operation ss)
 operations_counted [] ss = omega arith
-operations_counted (ReadOp a d o ∷ ops) ss = omega (arith, operations_counted ops ss)
-operations_counted (WriteOp a d ∷ ops) ss = omega (arith, operations_counted ops ss)
-operations_counted (UpdateOp a d e o ∷ ops) ss = omega (arith, operations_counted ops ss)
+operations_counted (ReadOp a d o span ∷ ops) ss = omega (arith, operations_counted ops ss)
+operations_counted (WriteOp a d span ∷ ops) ss = omega (arith, operations_counted ops ss)
+operations_counted (UpdateOp a d e o span ∷ ops) ss = omega (arith, operations_counted ops ss)
 
 procs_listed : (ps : List Process) → length (filter is_proc (flat_map process_statements ps)) ≡ length ps
 procs_listed [] = refl

@@ -13,13 +13,14 @@ use Rattle.trace_semantics.specs.declared.operation.OpName.{OpName}
 use Rattle.trace_semantics.specs.declared.operation.Origin.{Origin}
 use Rattle.trace_semantics.specs.declared.operation.Origin.TheVariants.{Any, Initial, Operation}
 use Rattle.trace_semantics.specs.declared.trace.Process.{Process}
-use Rattle.trace_text.specs.Entry.{op_statement, source_of, statement_for, fits_value, fits_place, origin_fits, op_fits, entry_fits}
+use Rattle.trace_text.specs.Entry.{op_statement, source_of, statement_for, fits_value, fits_place, origin_fits, span_fits, op_fits, entry_fits}
 use Rattle.trace_text.specs.Gathered.{with_operation, processes_of, processes_with, initial_with, final_with, before_with, Adds}
 use Rattle.trace_semantics.specs.Names.{is_name}
 use Rattle.trace_text.specs.Progress.{IsWrittenSoFar}
 use Rattle.trace_text.specs.Seen.{names_of_source}
-use Rattle.trace_semantics.specs.Trace.{is_written_value, is_written_origin, is_written_op, is_written_process, is_written_pair}
+use Rattle.trace_semantics.specs.Trace.{is_written_value, is_written_origin, is_written_span, is_written_op, is_written_process, is_written_pair}
 use Rattle.trace_text.specs.TraceFault.{names_of}
+use Rattle.trace_text.proofs.LineWords.SpanLemmas.{span_from_fits}
 
 -- one more that passes
 pub all_push : {A : Type 0} (p : A → Bool) (xs : List A) (x : A) → list_all p xs ≡ true → p x ≡ true → list_all p (xs ++ x ∷ []) ≡ true
@@ -31,18 +32,25 @@ origin_written Initial h k = refl
 origin_written (Operation n) h k = and_from (is_name n.process) (fits_place n.place) (and_parts (is_name n.process) true h).0 k
 
 op_written : (op : Op) → list_all is_name (names_of (op_statement op)) ≡ true → op_fits op ≡ true → is_written_op op ≡ true
-op_written (ReadOp a d o) h k =
+op_written (ReadOp a d o span) h k =
     let names = and_parts (is_name a) (list_all is_name (names_of_source (source_of o))) h in
-    let fits = and_parts (fits_value d) (origin_fits o) k in
-    and_from (is_name a) (nat_lt d (2 ^ 64) && is_written_origin o) names.0 (and_from (nat_lt d (2 ^ 64)) (is_written_origin o) fits.0 (origin_written o names.1 fits.1))
-op_written (WriteOp a d) h k = and_from (is_name a) (nat_lt d (2 ^ 64)) (and_parts (is_name a) true h).0 k
-op_written (UpdateOp a d e o) h k =
+    let fits = and_parts (fits_value d) (origin_fits o && span_fits span) k in
+    let last = and_parts (origin_fits o) (span_fits span) fits.1 in
+    and_from (is_name a) (nat_lt d (2 ^ 64) && (is_written_origin o && is_written_span span)) names.0
+    (and_from (nat_lt d (2 ^ 64)) (is_written_origin o && is_written_span span) fits.0
+    (and_from (is_written_origin o) (is_written_span span) (origin_written o names.1 last.0) (span_from_fits span last.1)))
+op_written (WriteOp a d span) h k =
+    let fits = and_parts (fits_value d) (span_fits span) k in
+    and_from (is_name a) (nat_lt d (2 ^ 64) && is_written_span span) (and_parts (is_name a) true h).0 (and_from (nat_lt d (2 ^ 64)) (is_written_span span) fits.0 (span_from_fits span fits.1))
+op_written (UpdateOp a d e o span) h k =
     let names = and_parts (is_name a) (list_all is_name (names_of_source (source_of o))) h in
-    let fits = and_parts (fits_value d) (fits_value e && origin_fits o) k in
-    let more = and_parts (fits_value e) (origin_fits o) fits.1 in
-    and_from (is_name a) (nat_lt d (2 ^ 64) && (nat_lt e (2 ^ 64) && is_written_origin o)) names.0
-    (and_from (nat_lt d (2 ^ 64)) (nat_lt e (2 ^ 64) && is_written_origin o) fits.0
-    (and_from (nat_lt e (2 ^ 64)) (is_written_origin o) more.0 (origin_written o names.1 more.1)))
+    let fits = and_parts (fits_value d) (fits_value e && (origin_fits o && span_fits span)) k in
+    let more = and_parts (fits_value e) (origin_fits o && span_fits span) fits.1 in
+    let last = and_parts (origin_fits o) (span_fits span) more.1 in
+    and_from (is_name a) (nat_lt d (2 ^ 64) && (nat_lt e (2 ^ 64) && (is_written_origin o && is_written_span span))) names.0
+    (and_from (nat_lt d (2 ^ 64)) (nat_lt e (2 ^ 64) && (is_written_origin o && is_written_span span)) fits.0
+    (and_from (nat_lt e (2 ^ 64)) (is_written_origin o && is_written_span span) more.0
+    (and_from (is_written_origin o) (is_written_span span) (origin_written o names.1 last.0) (span_from_fits span last.1))))
 
 written_with : (ps : List Process) (op : Op) → list_all is_written_process ps ≡ true → is_written_op op ≡ true → list_all is_written_process (with_operation ps op) ≡ true
 written_with [] op w o = refl

@@ -11,8 +11,9 @@ use Rattle.trace_text.specs.declared.entry.Entry.TheVariants.{Initial as Initial
 use Rattle.trace_semantics.specs.declared.operation.Op.TheVariants.{Read as ReadOp, Write as WriteOp, Update as UpdateOp}
 use Rattle.trace_semantics.specs.declared.operation.Origin.{Origin}
 use Rattle.trace_semantics.specs.declared.operation.Origin.TheVariants.{Any, Initial, Operation}
-use Rattle.trace_text.specs.Entry.{source_of, statement_for, has_numbers, fits_value, fits_place, origin_fits, entry_fits}
-use Rattle.trace_text.specs.Statement.{ReadsFrom, Unsaid, FromInit, FromOp, Statement, Init, Final, Proc, Read, Write, Update, Before}
+use Rattle.trace_semantics.specs.declared.operation.Span.{Span}
+use Rattle.trace_text.specs.Entry.{source_of, times_said, statement_for, has_numbers, has_time_numbers, fits_value, fits_place, origin_fits, span_fits, entry_fits}
+use Rattle.trace_text.specs.Statement.{ReadsFrom, Unsaid, FromInit, FromOp, TimesSaid, Untimed, At, Statement, Init, Final, Proc, Read, Write, Update, Before}
 use Rattle.trace_semantics.specs.Place.{place_of}
 use Rattle.trace_text.specs.TraceFault.{is_value, is_within, is_place, references_of_source}
 use Rattle.trace_semantics.proofs.WrittenLemmas.{number_written}
@@ -62,6 +63,20 @@ origin_said limits (FromOp process place) h =
     let at = place_written limits place (and_parts (is_place limits place) true h).0 in
     record { origin = Operation (record { process = process; place = at.number }); says = ap (FromOp process) at.digits; in_range = at.in_range }
 
+-- the span that times say
+record SaysSpan (times : TimesSaid) : Type 0 where
+  span : Option Span
+  says : times_said span ≡ times
+  in_range : span_fits span ≡ true
+
+span_said : (times : TimesSaid) → has_time_numbers times ≡ true → SaysSpan times
+span_said Untimed h = record { span = None; says = refl; in_range = refl }
+span_said (At start end) h =
+    let parts = and_parts (is_value start) (is_value end && true) h in
+    let first = value_of start parts.0 in
+    let last = value_of end (and_parts (is_value end) true parts.1).0 in
+    record { span = Some (record { start = first.number; end = last.number }); says = (λ i. At (first.digits i) (last.digits i)); in_range = and_from (fits_value first.number) (fits_value last.number) first.in_range last.in_range }
+
 -- the entry that a statement says
 pub record SaysEntry (s : Statement) : Type 0 where
   pub entry : Entry
@@ -75,21 +90,35 @@ pub entry_of : (limits : Limits) (s : Statement) → has_numbers limits s ≡ tr
 entry_of limits (Init a value) h = let v = value_of value (one_value value true h) in record { entry = InitialEntry a v.number; says = ap (Init a) v.digits; in_range = v.in_range }
 entry_of limits (Final a value) h = let v = value_of value (one_value value true h) in record { entry = FinalEntry a v.number; says = ap (Final a) v.digits; in_range = v.in_range }
 entry_of limits (Proc name) h = record { entry = ProcessEntry name; says = refl; in_range = refl }
-entry_of limits (Read a value source) h =
-    let v = value_of value (one_value value (are_places limits (references_of_source source)) h) in
-    let o = origin_said limits source (and_parts (is_value value && true) (are_places limits (references_of_source source)) h).1 in
-    record { entry = OperationEntry (ReadOp a v.number o.origin); says = λ i. Read a (v.digits i) (o.says i); in_range = and_from (fits_value v.number) (origin_fits o.origin) v.in_range o.in_range }
-entry_of limits (Write a value) h = let v = value_of value (one_value value true h) in record { entry = OperationEntry (WriteOp a v.number); says = ap (Write a) v.digits; in_range = v.in_range }
-entry_of limits (Update a read left source) h =
-    let outer = and_parts (is_value read && (is_value left && true)) (are_places limits (references_of_source source)) h in
-    let inner = and_parts (is_value read) (is_value left && true) outer.0 in
-    let v = value_of read inner.0 in
-    let w = value_of left (and_parts (is_value left) true inner.1).0 in
+entry_of limits (Read a value source times) h =
+    let outer = and_parts (is_value value && has_time_numbers times) (are_places limits (references_of_source source)) h in
+    let inner = and_parts (is_value value) (has_time_numbers times) outer.0 in
+    let v = value_of value inner.0 in
     let o = origin_said limits source outer.1 in
+    let t = span_said times inner.1 in
     record {
-      entry = OperationEntry (UpdateOp a v.number w.number o.origin);
-      says = λ i. Update a (v.digits i) (w.digits i) (o.says i);
-      in_range = and_from (fits_value v.number) (fits_value w.number && origin_fits o.origin) v.in_range (and_from (fits_value w.number) (origin_fits o.origin) w.in_range o.in_range);
+      entry = OperationEntry (ReadOp a v.number o.origin t.span);
+      says = λ i. Read a (v.digits i) (o.says i) (t.says i);
+      in_range = and_from (fits_value v.number) (origin_fits o.origin && span_fits t.span) v.in_range (and_from (origin_fits o.origin) (span_fits t.span) o.in_range t.in_range);
+    }
+entry_of limits (Write a value times) h =
+    let inner = and_parts (is_value value) (has_time_numbers times) (and_parts (is_value value && has_time_numbers times) true h).0 in
+    let v = value_of value inner.0 in
+    let t = span_said times inner.1 in
+    record { entry = OperationEntry (WriteOp a v.number t.span); says = λ i. Write a (v.digits i) (t.says i); in_range = and_from (fits_value v.number) (span_fits t.span) v.in_range t.in_range }
+entry_of limits (Update a read left source times) h =
+    let outer = and_parts (is_value read && (is_value left && has_time_numbers times)) (are_places limits (references_of_source source)) h in
+    let inner = and_parts (is_value read) (is_value left && has_time_numbers times) outer.0 in
+    let last = and_parts (is_value left) (has_time_numbers times) inner.1 in
+    let v = value_of read inner.0 in
+    let w = value_of left last.0 in
+    let o = origin_said limits source outer.1 in
+    let t = span_said times last.1 in
+    record {
+      entry = OperationEntry (UpdateOp a v.number w.number o.origin t.span);
+      says = λ i. Update a (v.digits i) (w.digits i) (o.says i) (t.says i);
+      in_range = and_from (fits_value v.number) (fits_value w.number && (origin_fits o.origin && span_fits t.span)) v.in_range
+          (and_from (fits_value w.number) (origin_fits o.origin && span_fits t.span) w.in_range (and_from (origin_fits o.origin) (span_fits t.span) o.in_range t.in_range));
     }
 entry_of limits (Before process place other other_place) h =
     let parts = and_parts (is_place limits place) (is_place limits other_place && true) h in

@@ -69,9 +69,9 @@ pub record IsOfOperation (s : Statement) : Type 0 where
   pub operation : is_operation s ≡ true
 
 pub op_kind : (op : Op) → IsOfOperation (op_statement op)
-op_kind (ReadOp a d o) = record { of_process = refl; no_init = refl; no_final = refl; no_before = refl; no_proc = refl; operation = refl }
-op_kind (WriteOp a d) = record { of_process = refl; no_init = refl; no_final = refl; no_before = refl; no_proc = refl; operation = refl }
-op_kind (UpdateOp a d e o) = record { of_process = refl; no_init = refl; no_final = refl; no_before = refl; no_proc = refl; operation = refl }
+op_kind (ReadOp a d o span) = record { of_process = refl; no_init = refl; no_final = refl; no_before = refl; no_proc = refl; operation = refl }
+op_kind (WriteOp a d span) = record { of_process = refl; no_init = refl; no_final = refl; no_before = refl; no_proc = refl; operation = refl }
+op_kind (UpdateOp a d e o span) = record { of_process = refl; no_init = refl; no_final = refl; no_before = refl; no_proc = refl; operation = refl }
 
 pub processes_push : (ss : List Statement) (e : Entry) (ps : List Process) → (is_operation (statement_for e) ≡ true → 0 < length ps) → filter is_of_process ss ≡ flat_map process_statements ps → filter is_of_process (ss ++ statement_for e ∷ []) ≡ flat_map process_statements (processes_with ps e)
 processes_push ss (InitialEntry a d) ps l h = dropped_push is_of_process ss (flat_map process_statements ps) (Init a (decimal d)) refl h

@@ -28,9 +28,9 @@ to_filter_map {A} {B} f (z ∷ zs) x y c e = elim (cases_in z zs x c) [
     behind (Some z) ys y c = tail_in z ys y c
 
 pub op_named : (op : Op) → location_named (op_statement op) ≡ Some (location_of op)
-op_named (ReadOp a d o) = refl
-op_named (WriteOp a d) = refl
-op_named (UpdateOp a d e o) = refl
+op_named (ReadOp a d o span) = refl
+op_named (WriteOp a d span) = refl
+op_named (UpdateOp a d e o span) = refl
 
 -- a location of the trace is one that a statement names
 pub named_by_some : (ss : List Statement) (t : TraceValue) (initial finals : List (List ℕ × ℕ)) → IsPermutation initial t.initial → IsPermutation finals t.final_values → filter is_init ss ≡ map init_statement initial → filter is_final ss ≡ map final_statement finals →

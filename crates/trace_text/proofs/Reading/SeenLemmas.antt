@@ -10,7 +10,7 @@ use Rattle.text_lines.proofs.BoolLemmas.{or_last}
 use Rattle.text_lines.proofs.ListLemmas.{none_passes}
 use Rattle.trace_text.specs.declared.seen.Seen.{Seen}
 use Rattle.trace_text.specs.declared.trace_fault.TraceCause.{TraceCause}
-use Rattle.trace_text.specs.declared.trace_fault.TraceCause.TheVariants.{BadName, BadNumber, LateHeaderLine, OpOutsideProc, InitTwice, FinalTwice, ProcTwice, TooManyProcs, TooManyOps, TooManyLocations, TooManyBefore}
+use Rattle.trace_text.specs.declared.trace_fault.TraceCause.TheVariants.{BadName, BadNumber, LateHeaderLine, OpOutsideProc, InitTwice, FinalTwice, ProcTwice, TooManyProcs, TooManyOps, TooManyLocations, TooManyBefore, EndsBeforeStart}
 use Rattle.text_lines.specs.declared.plain_fault.PlainFault.{PlainFault}
 use Rattle.text_lines.specs.declared.plain_fault.PlainFault.TheVariants.{OutOfMemory, For}
 use Rattle.trace_text.specs.Entry.{has_numbers, number_fault}
@@ -21,7 +21,7 @@ use Rattle.trace_semantics.proofs.NameLemmas.{bytes_turned}
 use Rattle.trace_semantics.proofs.DistinctLemmas.{length_chosen}
 use Rattle.trace_text.specs.Seen.{has, early_fault, fault_behind, fault_of_operation, NotesLocation, Notes, IsSeen}
 use Rattle.trace_text.specs.Statement.{Statement, Init, Final, Proc, Read, Write, Update, Before}
-use Rattle.trace_text.specs.TraceFault.{is_proc, is_operation, is_before, is_value_line, names_of, location_named, repeats, twice_cause, limit_fault, is_location_too_many, or_else, statement_fault}
+use Rattle.trace_text.specs.TraceFault.{is_proc, is_operation, is_before, is_value_line, names_of, location_named, times_of, are_turned, repeats, twice_cause, limit_fault, is_location_too_many, or_else, statement_fault}
 use Rattle.trace_semantics.specs.declared.limits.Limits.{Limits}
 use Rattle.trace_semantics.specs.Limits.{max_operations, max_locations, max_pairs}
 
@@ -99,18 +99,18 @@ init_repeats : (a d : List ℕ) (t : Statement) → repeats (Init a []) t ≡ re
 init_repeats a d (Init b e) = refl
 init_repeats a d (Final b e) = refl
 init_repeats a d (Proc name) = refl
-init_repeats a d (Read b e source) = refl
-init_repeats a d (Write b e) = refl
-init_repeats a d (Update b e f source) = refl
+init_repeats a d (Read b e source times) = refl
+init_repeats a d (Write b e times) = refl
+init_repeats a d (Update b e f source times) = refl
 init_repeats a d (Before p i q j) = refl
 
 final_repeats : (a d : List ℕ) (t : Statement) → repeats (Final a []) t ≡ repeats (Final a d) t
 final_repeats a d (Init b e) = refl
 final_repeats a d (Final b e) = refl
 final_repeats a d (Proc name) = refl
-final_repeats a d (Read b e source) = refl
-final_repeats a d (Write b e) = refl
-final_repeats a d (Update b e f source) = refl
+final_repeats a d (Read b e source times) = refl
+final_repeats a d (Write b e times) = refl
+final_repeats a d (Update b e f source times) = refl
 final_repeats a d (Before p i q j) = refl
 
 or_else_chosen : (b : Bool) (cause : TraceCause) (other : Option TraceCause) → or_else (if b then Some cause else None) other ≡ (if b then Some cause else other)
@@ -138,52 +138,65 @@ fault_seen limits ss seen (Final a d) h = λ i. if (h.final_values a ∙ any_sam
 fault_seen limits ss seen (Proc name) h =
     (λ i. if h.processes name i then Some ProcTwice else if nat_le 64 (h.process_count i) then Some TooManyProcs else None)
     ∙ ap (λ f. if list_any (repeats (Proc name)) ss then Some ProcTwice else f) (none_after (nat_le 64 (length (filter is_proc ss))) TooManyProcs)
-fault_seen limits ss seen (Read a d source) h = fault_at_operation limits ss seen a h ∙ no_repeats ss ProcTwice (or_else (limit_fault limits ss (Read a d source)) (if is_location_too_many limits ss (Some a) then Some TooManyLocations else None))
-fault_seen limits ss seen (Write a d) h = fault_at_operation limits ss seen a h ∙ no_repeats ss ProcTwice (or_else (limit_fault limits ss (Write a d)) (if is_location_too_many limits ss (Some a) then Some TooManyLocations else None))
-fault_seen limits ss seen (Update a d e source) h = fault_at_operation limits ss seen a h ∙ no_repeats ss ProcTwice (or_else (limit_fault limits ss (Update a d e source)) (if is_location_too_many limits ss (Some a) then Some TooManyLocations else None))
+fault_seen limits ss seen (Read a d source times) h = fault_at_operation limits ss seen a h ∙ no_repeats ss ProcTwice (or_else (limit_fault limits ss (Read a d source times)) (if is_location_too_many limits ss (Some a) then Some TooManyLocations else None))
+fault_seen limits ss seen (Write a d times) h = fault_at_operation limits ss seen a h ∙ no_repeats ss ProcTwice (or_else (limit_fault limits ss (Write a d times)) (if is_location_too_many limits ss (Some a) then Some TooManyLocations else None))
+fault_seen limits ss seen (Update a d e source times) h = fault_at_operation limits ss seen a h ∙ no_repeats ss ProcTwice (or_else (limit_fault limits ss (Update a d e source times)) (if is_location_too_many limits ss (Some a) then Some TooManyLocations else None))
 fault_seen limits ss seen (Before p i q j) h =
     (λ k. if nat_le (max_pairs limits) (h.before_count k) then Some TooManyBefore else None)
     ∙ none_after (nat_le (max_pairs limits) (length (filter is_before ss))) TooManyBefore
     ∙ no_repeats ss ProcTwice (or_else (limit_fault limits ss (Before p i q j)) None)
 
 -- the first of the faults of a statement
-abbrev pub shape_of : Bool → Bool → Bool → Bool → Option TraceCause
-shape_of late outside named numbered = if late then Some LateHeaderLine else if outside then Some OpOutsideProc else if not named then Some BadName else if not numbered then Some BadNumber else None
+abbrev pub shape_of : Bool → Bool → Bool → Bool → Bool → Option TraceCause
+shape_of late outside named numbered turned = if late then Some LateHeaderLine else if outside then Some OpOutsideProc else if not named then Some BadName else if not numbered then Some BadNumber else if turned then Some EndsBeforeStart else None
 
 abbrev pub early_of : Bool → Bool → Bool → Option TraceCause
 early_of late outside named = if late then Some LateHeaderLine else if outside then Some OpOutsideProc else if not named then Some BadName else None
 
-early_some : (a b c d : Bool) (cause : TraceCause) (rest : Option TraceCause) → early_of a b c ≡ Some cause → or_else (shape_of a b c d) rest ≡ Some cause
-early_some true b c d cause rest h = h
-early_some false true c d cause rest h = h
-early_some false false false d cause rest h = h
-early_some false false true d cause rest h = absurd (cc)
+early_some : (a b c d e : Bool) (cause : TraceCause) (rest : Option TraceCause) → early_of a b c ≡ Some cause → or_else (shape_of a b c d e) rest ≡ Some cause
+early_some true b c d e cause rest h = h
+early_some false true c d e cause rest h = h
+early_some false false false d e cause rest h = h
+early_some false false true d e cause rest h = absurd (cc)
 
-early_number : (a b c d : Bool) (cause : TraceCause) (rest : Option TraceCause) → early_of a b c ≡ None → number_fault d ≡ Some cause → or_else (shape_of a b c d) rest ≡ Some cause
-early_number true b c d cause rest h n = absurd (cc)
-early_number false true c d cause rest h n = absurd (cc)
-early_number false false false d cause rest h n = absurd (cc)
-early_number false false true true cause rest h n = absurd (cc)
-early_number false false true false cause rest h n = n
+early_number : (a b c d e : Bool) (cause : TraceCause) (rest : Option TraceCause) → early_of a b c ≡ None → number_fault d ≡ Some cause → or_else (shape_of a b c d e) rest ≡ Some cause
+early_number true b c d e cause rest h n = absurd (cc)
+early_number false true c d e cause rest h n = absurd (cc)
+early_number false false false d e cause rest h n = absurd (cc)
+early_number false false true true e cause rest h n = absurd (cc)
+early_number false false true false e cause rest h n = n
 
-early_none : (a b c d : Bool) (rest : Option TraceCause) → early_of a b c ≡ None → d ≡ true → or_else (shape_of a b c d) rest ≡ rest
-early_none true b c d rest h n = absurd (cc)
-early_none false true c d rest h n = absurd (cc)
-early_none false false false d rest h n = absurd (cc)
-early_none false false true true rest h n = refl
-early_none false false true false rest h n = absurd (cc)
+early_turned : (a b c d e : Bool) (rest : Option TraceCause) → early_of a b c ≡ None → d ≡ true → e ≡ true → or_else (shape_of a b c d e) rest ≡ Some EndsBeforeStart
+early_turned true b c d e rest h n t = absurd (cc)
+early_turned false true c d e rest h n t = absurd (cc)
+early_turned false false false d e rest h n t = absurd (cc)
+early_turned false false true false e rest h n t = absurd (cc)
+early_turned false false true true false rest h n t = absurd (cc)
+early_turned false false true true true rest h n t = refl
+
+early_none : (a b c d e : Bool) (rest : Option TraceCause) → early_of a b c ≡ None → d ≡ true → e ≡ false → or_else (shape_of a b c d e) rest ≡ rest
+early_none true b c d e rest h n t = absurd (cc)
+early_none false true c d e rest h n t = absurd (cc)
+early_none false false false d e rest h n t = absurd (cc)
+early_none false false true false e rest h n t = absurd (cc)
+early_none false false true true true rest h n t = absurd (cc)
+early_none false false true true false rest h n t = refl
 
 -- the fault of a statement, where its place or a name is wrong
 pub fault_early : (limits : Limits) (ss : List Statement) (s : Statement) (begun : Bool) (cause : TraceCause) → list_any is_proc ss ≡ begun → early_fault begun s ≡ Some cause → statement_fault limits ss s ≡ Some cause
-fault_early limits ss s begun cause b h = early_some (is_value_line s && list_any is_proc ss) (is_operation s && not (list_any is_proc ss)) (list_all is_name (names_of s)) (has_numbers limits s) cause
+fault_early limits ss s begun cause b h = early_some (is_value_line s && list_any is_proc ss) (is_operation s && not (list_any is_proc ss)) (list_all is_name (names_of s)) (has_numbers limits s) (are_turned (times_of s)) cause
     (late_fault limits ss s) (ap (λ c. early_fault c s) b ∙ h)
 
 -- where a number is wrong
 pub fault_number : (limits : Limits) (ss : List Statement) (s : Statement) (begun : Bool) (refusal : PlainFault TraceCause) → list_any is_proc ss ≡ begun → early_fault begun s ≡ None → IsRefusedFor (number_fault (has_numbers limits s)) refusal → IsRefusedFor (statement_fault limits ss s) refusal
 fault_number limits ss s begun OutOfMemory b h r = tt
-fault_number limits ss s begun (For cause) b h r = early_number (is_value_line s && list_any is_proc ss) (is_operation s && not (list_any is_proc ss)) (list_all is_name (names_of s)) (has_numbers limits s) cause
+fault_number limits ss s begun (For cause) b h r = early_number (is_value_line s && list_any is_proc ss) (is_operation s && not (list_any is_proc ss)) (list_all is_name (names_of s)) (has_numbers limits s) (are_turned (times_of s)) cause
     (late_fault limits ss s) (ap (λ c. early_fault c s) b ∙ h) r
 
+-- where it ends before it starts
+pub fault_turned : (limits : Limits) (ss : List Statement) (s : Statement) (begun : Bool) → list_any is_proc ss ≡ begun → early_fault begun s ≡ None → has_numbers limits s ≡ true → are_turned (times_of s) ≡ true → statement_fault limits ss s ≡ Some EndsBeforeStart
+fault_turned limits ss s begun b h n t = early_turned (is_value_line s && list_any is_proc ss) (is_operation s && not (list_any is_proc ss)) (list_all is_name (names_of s)) (has_numbers limits s) (are_turned (times_of s)) (late_fault limits ss s) (ap (λ c. early_fault c s) b ∙ h) n t
+
 -- where its words are fine
-pub fault_late : (limits : Limits) (ss : List Statement) (s : Statement) (begun : Bool) → list_any is_proc ss ≡ begun → early_fault begun s ≡ None → has_numbers limits s ≡ true → statement_fault limits ss s ≡ late_fault limits ss s
-fault_late limits ss s begun b h n = early_none (is_value_line s && list_any is_proc ss) (is_operation s && not (list_any is_proc ss)) (list_all is_name (names_of s)) (has_numbers limits s) (late_fault limits ss s) (ap (λ c. early_fault c s) b ∙ h) n
+pub fault_late : (limits : Limits) (ss : List Statement) (s : Statement) (begun : Bool) → list_any is_proc ss ≡ begun → early_fault begun s ≡ None → has_numbers limits s ≡ true → are_turned (times_of s) ≡ false → statement_fault limits ss s ≡ late_fault limits ss s
+fault_late limits ss s begun b h n t = early_none (is_value_line s && list_any is_proc ss) (is_operation s && not (list_any is_proc ss)) (list_all is_name (names_of s)) (has_numbers limits s) (are_turned (times_of s)) (late_fault limits ss s) (ap (λ c. early_fault c s) b ∙ h) n t

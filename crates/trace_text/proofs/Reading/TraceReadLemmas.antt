@@ -27,7 +27,7 @@ use Rattle.trace_text.proofs.InOrder.SortLemmas.{in_order, arranged}
 use Rattle.trace_semantics.specs.declared.limits.Limits.{Limits}
 use Rattle.trace_text.specs.declared.version.Version.{Version}
 use Rattle.trace_text.specs.declared.version.Version.TheVariants.{One, Two, Three}
-use Rattle.trace_text.specs.Version.{has_version_2_lines, limits_of}
+use Rattle.trace_text.specs.Version.{limits_of}
 
 -- no line says anything yet, or the lines are a header and statements
 abbrev IsReadSoFar : List (List ℕ) → Type 0
@@ -62,12 +62,12 @@ some_said limits ss (Some s) h = (s, refl, h)
 
 one_said : (version : Version) (done : List (List ℕ)) (ss : List Statement) (line : List ℕ) → AreSaid version done ss → is_skipped (words_of line) ≡ false → words_fault (kept done) (words_of line) ≡ None → (new : List Statement) × AreSaid version (done ++ line ∷ []) new
 one_said version done ss line a says clear =
-    let at = some_said (limits_of version) ss (statement_of (has_version_2_lines version) (words_of line)) (sym (fault_said version done ss (words_of line) a) ∙ clear) in
-    let words : words_of line ≡ words_for at.0 = words_said (has_version_2_lines version) (words_of line) at.0 at.1 in (
+    let at = some_said (limits_of version) ss (statement_of version (words_of line)) (sym (fault_said version done ss (words_of line) a) ∙ clear) in
+    let words : words_of line ≡ words_for at.0 = words_said version (words_of line) at.0 at.1 in (
       ss ++ at.0 ∷ [],
       record {
         kept_lines = kept_more done line false says ∙ (λ i. a.kept_lines i ++ words i ∷ []) ∙ ap (λ l. header_line version ∷ l) (sym (map-append words_for ss (at.0 ∷ [])));
-        said = map-append (saying (has_version_2_lines version)) ss (at.0 ∷ []) ∙ (λ i. a.said i ++ (ap (statement_of (has_version_2_lines version)) (sym words) ∙ at.1) i ∷ []) ∙ sym (map-append Some ss (at.0 ∷ []));
+        said = map-append (saying version) ss (at.0 ∷ []) ∙ (λ i. a.said i ++ (ap (statement_of version) (sym words) ∙ at.1) i ∷ []) ∙ sym (map-append Some ss (at.0 ∷ []));
         faultless = faultless_push (statement_fault (limits_of version)) ss at.0 a.faultless at.2;
       },
     )

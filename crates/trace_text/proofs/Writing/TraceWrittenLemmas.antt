@@ -1,10 +1,10 @@
 -- The canonical text of a trace spells it.
 use Rattle.std.proofs.Common.{◌≡◌, ℕ, ◌^◌, ◌<◌, ◌≤◌, List, [], ◌∷◌, ◌++◌, length, map, Bool, true, false, cond, ◌||◌, refl, ap, sym, ◌∙◌, subst, arith, append_assoc, append-nil}
-use Rattle.std.specs.Prelude.{◌↔◌, codes, nat_lt, if◌then◌else◌}
+use Rattle.std.specs.Prelude.{◌↔◌, Option, Some, None, codes, nat_lt, if◌then◌else◌}
 use Rattle.std.specs.Fmt.{decimal}
 use Rattle.std.specs.List.{list_all, list_any, filter, flat_map, Contains}
 use Rattle.std.specs.List.Sorted.{IsPermutation}
-use Rattle.std.proofs.lemmas.Bool.{and_parts, and_from, or_from, or_parts, ltb-false, false≢true}
+use Rattle.std.proofs.lemmas.Bool.{and_parts, and_from, or_from, or_parts, ltb-true, ltb-false, false≢true}
 use Rattle.std.proofs.lemmas.List.{length-map}
 use Rattle.std.proofs.lemmas.List.Elements.{filter-append}
 use Rattle.std.proofs.lemmas.List.Folds.{list_any-append, list_all-append}
@@ -14,18 +14,19 @@ use Rattle.trace_semantics.specs.declared.operation.Op.TheVariants.{Read, Write,
 use Rattle.trace_semantics.specs.declared.operation.OpName.{OpName}
 use Rattle.trace_semantics.specs.declared.operation.Origin.{Origin}
 use Rattle.trace_semantics.specs.declared.operation.Origin.TheVariants.{Any, Initial, Operation}
+use Rattle.trace_semantics.specs.declared.operation.Span.{Span}
 use Rattle.trace_semantics.specs.declared.trace.Process.{Process}
 use Rattle.trace_semantics.specs.Names.{is_name}
-use Rattle.trace_semantics.specs.Trace.{TraceValue, IsTrace, IsWritten, operation_count, location_count, is_written_value, is_written_name, is_written_origin, is_written_op, is_written_process, is_written_pair}
-use Rattle.trace_text.specs.TraceText.{SpellsTrace, begins, is_process_line, header_line, init_line, final_line, proc_line, origin_words, op_line, process_lines, before_line, needs_version_2, needs_version_3, FitsIn}
+use Rattle.trace_semantics.specs.Trace.{TraceValue, IsTrace, IsWritten, operation_count, location_count, is_written_value, is_written_name, is_written_origin, is_written_span, is_written_op, is_written_process, is_written_pair}
+use Rattle.trace_text.specs.TraceText.{SpellsTrace, begins, is_process_line, header_line, init_line, final_line, proc_line, origin_words, span_words, op_line, process_lines, before_line, says_times, needs_version_2, needs_version_3, FitsIn}
 use Rattle.trace_text.specs.TraceWritten.{version_for, canonical_body, canonical_lines, canonical_trace}
 use Rattle.trace_text.proofs.Writing.LineTextLemmas.{is_word, is_line, name_is_word, number_is_word, written_kept}
-use Rattle.trace_text.proofs.Writing.WritableLemmas.{name_parts, value_parts, read_parts, update_parts}
+use Rattle.trace_text.proofs.Writing.WritableLemmas.{name_parts, value_parts, read_parts, write_parts, update_parts}
 use Rattle.trace_semantics.specs.declared.limits.Limits.TheVariants.{Small}
 use Rattle.trace_semantics.specs.Limits.{max_operations, max_locations, max_pairs}
 use Rattle.trace_text.specs.declared.version.Version.{Version}
 use Rattle.trace_text.specs.declared.version.Version.TheVariants.{One, Two, Three}
-use Rattle.trace_text.specs.Version.{has_version_2_lines, limits_of}
+use Rattle.trace_text.specs.Version.{has_version_2_lines, has_times, limits_of}
 
 -- tests over lists that are made of others
 all_map : {A B : Type 0} (p : B → Bool) (q : A → Bool) (f : A → B) → ((x : A) → q x ≡ true → p (f x) ≡ true) → (xs : List A) → list_all q xs ≡ true → list_all p (map f xs) ≡ true
@@ -69,16 +70,25 @@ init_is_line entry h = and_from _ true (entry_words entry h) refl
 final_is_line : (entry : List ℕ × ℕ) → is_written_value entry ≡ true → is_line (final_line entry) ≡ true
 final_is_line entry h = and_from _ true (entry_words entry h) refl
 
+span_are_words : (span : Option Span) → is_written_span span ≡ true → list_all is_word (span_words span) ≡ true
+span_are_words None h = refl
+span_are_words (Some span) h =
+    let parts = and_parts (nat_lt span.start (2 ^ 64)) (nat_lt span.end (2 ^ 64)) h in
+    and_from _ _ (number_is_word span.start (ltb-true span.start (2 ^ 64) parts.0)) (and_from _ true (number_is_word span.end (ltb-true span.end (2 ^ 64) parts.1)) refl)
+
+last_are_words : (origin : Origin) (span : Option Span) → is_written_origin origin ≡ true → is_written_span span ≡ true → list_all is_word (origin_words origin ++ span_words span) ≡ true
+last_are_words origin span h k = list_all-append is_word (origin_words origin) (span_words span) ∙ and_from _ _ (origin_are_words origin h) (span_are_words span k)
+
 op_is_line : (op : Op) → is_written_op op ≡ true → is_line (op_line op) ≡ true
-op_is_line (Read location value origin) h =
-    let parts = read_parts location value origin h in
-    and_from _ true (valued location value (origin_words origin) parts.named parts.small (origin_are_words origin parts.origin_is)) refl
-op_is_line (Write location value) h =
-    let parts = value_parts location value h in
-    and_from _ true (valued location value [] parts.0 parts.1 refl) refl
-op_is_line (Update location read left origin) h =
-    let parts = update_parts location read left origin h in
-    and_from _ true (valued location read (decimal left ∷ origin_words origin) parts.named parts.read_small (and_from _ _ (number_is_word left parts.left_small) (origin_are_words origin parts.origin_is))) refl
+op_is_line (Read location value origin span) h =
+    let parts = read_parts location value origin span h in
+    and_from _ true (valued location value (origin_words origin ++ span_words span) parts.named parts.small (last_are_words origin span parts.origin_is parts.span_is)) refl
+op_is_line (Write location value span) h =
+    let parts = write_parts location value span h in
+    and_from _ true (valued location value (span_words span) parts.named parts.small (span_are_words span parts.span_is)) refl
+op_is_line (Update location read left origin span) h =
+    let parts = update_parts location read left origin span h in
+    and_from _ true (valued location read (decimal left ∷ (origin_words origin ++ span_words span)) parts.named parts.read_small (and_from _ _ (number_is_word left parts.left_small) (last_are_words origin span parts.origin_is parts.span_is))) refl
 
 process_are_lines : (p : Process) → is_written_process p ≡ true → list_all is_line (process_lines p) ≡ true
 process_are_lines p h =
@@ -131,9 +141,9 @@ record Answers (p : List (List ℕ) → Bool) (b : Bool) : Type 0 where
   update : (words : List (List ℕ)) → p (codes "U" ∷ words) ≡ b
 
 at_op : (p : List (List ℕ) → Bool) (b : Bool) → Answers p b → (op : Op) → p (op_line op) ≡ b
-at_op p b h (Read location value origin) = h.read (location ∷ decimal value ∷ origin_words origin)
-at_op p b h (Write location value) = h.write (location ∷ decimal value ∷ [])
-at_op p b h (Update location read left origin) = h.update (location ∷ decimal read ∷ decimal left ∷ origin_words origin)
+at_op p b h (Read location value origin span) = h.read (location ∷ decimal value ∷ (origin_words origin ++ span_words span))
+at_op p b h (Write location value span) = h.write (location ∷ decimal value ∷ span_words span)
+at_op p b h (Update location read left origin span) = h.update (location ∷ decimal read ∷ decimal left ∷ (origin_words origin ++ span_words span))
 
 each_of_processes : (p : List (List ℕ) → Bool) → Answers p true → (ps : List Process) → list_all p (flat_map process_lines ps) ≡ true
 each_of_processes p h [] = refl
@@ -233,29 +243,38 @@ same_elements {A} xs ys e x = (subst (λ (l : List A). Contains l x) e, subst (�
 -- the version of the canonical text has lines and room
 record HasVersion (t : TraceValue) (version : Version) : Type 0 where
   lines_known : has_version_2_lines version ≡ false → needs_version_2 t ≡ false
+  times_known : has_times version ≡ false → says_times t ≡ false
   fits : FitsIn (limits_of version) t
   few_pairs : length t.before ≤ max_pairs (limits_of version)
 
-small_fits : (t : TraceValue) → needs_version_3 t ≡ false → FitsIn Small t × (length t.before ≤ max_pairs Small)
+-- no times, and no more than versions 1 and 2 have room for
+record IsSmall (t : TraceValue) : Type 0 where
+  untimed : says_times t ≡ false
+  fits : FitsIn Small t
+  few_pairs : length t.before ≤ max_pairs Small
+
+small_fits : (t : TraceValue) → needs_version_3 t ≡ false → IsSmall t
 small_fits t few =
-    let parts = or_parts (nat_lt (max_operations Small) (operation_count t)) (nat_lt (max_pairs Small) (length t.before) || nat_lt (max_locations Small) (location_count t)) few in
+    let first = or_parts (says_times t) (nat_lt (max_operations Small) (operation_count t) || (nat_lt (max_pairs Small) (length t.before) || nat_lt (max_locations Small) (location_count t))) few in
+    let parts = or_parts (nat_lt (max_operations Small) (operation_count t)) (nat_lt (max_pairs Small) (length t.before) || nat_lt (max_locations Small) (location_count t)) first.1 in
     let more = or_parts (nat_lt (max_pairs Small) (length t.before)) (nat_lt (max_locations Small) (location_count t)) parts.1 in
     let operations = ltb-false (max_operations Small) (operation_count t) parts.0 in
     let pairs = ltb-false (max_pairs Small) (length t.before) more.0 in
     let locations = ltb-false (max_locations Small) (location_count t) more.1 in
-    (record { few_operations = omega (arith, operations); few_locations = omega (arith, locations) }, omega (arith, pairs))
+    record { untimed = first.0; fits = record { few_operations = omega (arith, operations); few_locations = omega (arith, locations) }; few_pairs = omega (arith, pairs) }
 
-small_version : (t : TraceValue) (two : Bool) → needs_version_2 t ≡ two → FitsIn Small t → length t.before ≤ max_pairs Small → HasVersion t (if two then Two else One)
-small_version t true says fits pairs = record { lines_known = λ h. absurd (let clash : true ≡ false = h in cc); fits = fits; few_pairs = pairs }
-small_version t false says fits pairs = record { lines_known = λ h. says; fits = fits; few_pairs = pairs }
+small_version : (t : TraceValue) (two : Bool) → needs_version_2 t ≡ two → IsSmall t → HasVersion t (if two then Two else One)
+small_version t true says small = record { lines_known = λ h. absurd (let clash : true ≡ false = h in cc); times_known = λ h. small.untimed; fits = small.fits; few_pairs = small.few_pairs }
+small_version t false says small = record { lines_known = λ h. says; times_known = λ h. small.untimed; fits = small.fits; few_pairs = small.few_pairs }
 
 version_by : (t : TraceValue) → IsTrace t → (large : Bool) → needs_version_3 t ≡ large → HasVersion t (if large then Three else if needs_version_2 t then Two else One)
 version_by t ok true says = record {
   lines_known = λ h. absurd (let clash : true ≡ false = h in cc);
+  times_known = λ h. absurd (let clash : true ≡ false = h in cc);
   fits = record { few_operations = ok.few_operations; few_locations = ok.few_locations };
   few_pairs = ok.few_pairs;
 }
-version_by t ok false says = let small = small_fits t says in small_version t (needs_version_2 t) refl small.0 small.1
+version_by t ok false says = small_version t (needs_version_2 t) refl (small_fits t says)
 
 version_right : (t : TraceValue) → IsTrace t → HasVersion t (version_for t)
 version_right t ok = version_by t ok (needs_version_3 t) refl
@@ -275,5 +294,6 @@ written_spells t ok =
       before = same_elements (filter (begins (codes "before")) (canonical_body t)) (map before_line t.before) pairs;
       few_before = omega (arith, ap length pairs, length-map t.before before_line, right.few_pairs);
       lines_known = right.lines_known;
+      times_known = right.times_known;
       fits = right.fits;
     }

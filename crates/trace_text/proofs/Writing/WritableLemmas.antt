@@ -1,10 +1,11 @@
 -- The words of what a trace that can be written says: their names are names, their numbers are in their ranges, and no byte is above 127.
-use Rattle.std.proofs.Common.{◌≡◌, ℕ, ◌-◌, ◌^◌, ◌<◌, ◌≤◌, List, [], ◌∷◌, Bool, true, false, not, ◌&&◌, leb, codes, refl, ap, ◌∙◌, arith}
-use Rattle.std.specs.Prelude.{Some, None, is_none, nat_le, nat_lt, if◌then◌else◌}
+use Rattle.std.proofs.Common.{◌≡◌, ℕ, ◌-◌, ◌^◌, ◌<◌, ◌≤◌, List, [], ◌∷◌, ◌++◌, Bool, true, false, not, ◌&&◌, leb, codes, refl, ap, ◌∙◌, arith}
+use Rattle.std.specs.Prelude.{Option, Some, None, is_none, nat_le, nat_lt, if◌then◌else◌}
 use Rattle.std.specs.Fmt.{decimal}
 use Rattle.std.specs.List.{list_all}
 use Rattle.std.specs.Option.{option_and_then}
 use Rattle.std.proofs.lemmas.Bool.{and_parts, and_from, or_from, cond-true, ltb-true, leb-true, le-leb}
+use Rattle.std.proofs.lemmas.List.Folds.{list_any-append}
 use Rattle.text_lines.proofs.Decimals.PlainLemmas.{decimal_is_plain}
 use Rattle.trace_text.specs.declared.entry.Entry.{Entry}
 use Rattle.trace_text.specs.declared.entry.Entry.TheVariants.{Initial as InitialEntry, Final as FinalEntry, Process as ProcessEntry, Operation as OperationEntry, Before as BeforeEntry}
@@ -13,11 +14,12 @@ use Rattle.trace_semantics.specs.declared.operation.Op.TheVariants.{Read as Read
 use Rattle.trace_semantics.specs.declared.operation.OpName.{OpName}
 use Rattle.trace_semantics.specs.declared.operation.Origin.{Origin}
 use Rattle.trace_semantics.specs.declared.operation.Origin.TheVariants.{Any, Initial, Operation}
-use Rattle.trace_text.specs.Entry.{op_statement, source_of, statement_for, has_numbers}
+use Rattle.trace_semantics.specs.declared.operation.Span.{Span}
+use Rattle.trace_text.specs.Entry.{op_statement, source_of, times_said, statement_for, has_numbers, has_time_numbers}
 use Rattle.trace_semantics.specs.Names.{is_name}
 use Rattle.trace_text.specs.Seen.{names_of_source}
-use Rattle.trace_text.specs.Statement.{source_words, words_for}
-use Rattle.trace_semantics.specs.Trace.{is_written_value, is_written_name, is_written_origin, is_written_op, is_written_pair}
+use Rattle.trace_text.specs.Statement.{source_words, times_words, words_for}
+use Rattle.trace_semantics.specs.Trace.{is_written_value, is_written_name, is_written_origin, is_written_span, is_written_op, is_written_pair}
 use Rattle.trace_semantics.specs.Place.{place_of}
 use Rattle.trace_text.specs.TraceFault.{is_value, is_within, is_place, names_of, references_of_source}
 use Rattle.trace_text.proofs.LineWords.HighLemmas.{high_word, high_words, low_name, low_decimal}
@@ -47,35 +49,50 @@ name_parts n h =
     record { named = outer.0; least = leb-true 1 n.place inner.0; most = leb-true n.place 4294967295 inner.1 }
 
 -- the parts of an operation that can be written
-pub record IsWritableRead (location : List ℕ) (value : ℕ) (origin : Origin) : Type 0 where
+pub record IsWritableRead (location : List ℕ) (value : ℕ) (origin : Origin) (span : Option Span) : Type 0 where
   pub named : is_name location ≡ true
   pub small : value < 2 ^ 64
   pub origin_is : is_written_origin origin ≡ true
+  pub span_is : is_written_span span ≡ true
 
-pub read_parts : (a : List ℕ) (d : ℕ) (o : Origin) → is_written_op (ReadOp a d o) ≡ true → IsWritableRead a d o
-read_parts a d o h =
-    let outer = and_parts (is_name a) (nat_lt d (2 ^ 64) && is_written_origin o) h in
-    let inner = and_parts (nat_lt d (2 ^ 64)) (is_written_origin o) outer.1 in
-    record { named = outer.0; small = ltb-true d (2 ^ 64) inner.0; origin_is = inner.1 }
+pub read_parts : (a : List ℕ) (d : ℕ) (o : Origin) (span : Option Span) → is_written_op (ReadOp a d o span) ≡ true → IsWritableRead a d o span
+read_parts a d o span h =
+    let outer = and_parts (is_name a) (nat_lt d (2 ^ 64) && (is_written_origin o && is_written_span span)) h in
+    let inner = and_parts (nat_lt d (2 ^ 64)) (is_written_origin o && is_written_span span) outer.1 in
+    let last = and_parts (is_written_origin o) (is_written_span span) inner.1 in
+    record { named = outer.0; small = ltb-true d (2 ^ 64) inner.0; origin_is = last.0; span_is = last.1 }
 
-pub record IsWritableUpdate (location : List ℕ) (read left : ℕ) (origin : Origin) : Type 0 where
+pub record IsWritableWrite (location : List ℕ) (value : ℕ) (span : Option Span) : Type 0 where
+  pub named : is_name location ≡ true
+  pub small : value < 2 ^ 64
+  pub span_is : is_written_span span ≡ true
+
+pub write_parts : (a : List ℕ) (d : ℕ) (span : Option Span) → is_written_op (WriteOp a d span) ≡ true → IsWritableWrite a d span
+write_parts a d span h =
+    let outer = and_parts (is_name a) (nat_lt d (2 ^ 64) && is_written_span span) h in
+    let inner = and_parts (nat_lt d (2 ^ 64)) (is_written_span span) outer.1 in
+    record { named = outer.0; small = ltb-true d (2 ^ 64) inner.0; span_is = inner.1 }
+
+pub record IsWritableUpdate (location : List ℕ) (read left : ℕ) (origin : Origin) (span : Option Span) : Type 0 where
   pub named : is_name location ≡ true
   pub read_small : read < 2 ^ 64
   pub left_small : left < 2 ^ 64
   pub origin_is : is_written_origin origin ≡ true
+  pub span_is : is_written_span span ≡ true
 
-pub update_parts : (a : List ℕ) (d e : ℕ) (o : Origin) → is_written_op (UpdateOp a d e o) ≡ true → IsWritableUpdate a d e o
-update_parts a d e o h =
-    let outer = and_parts (is_name a) (nat_lt d (2 ^ 64) && (nat_lt e (2 ^ 64) && is_written_origin o)) h in
-    let middle = and_parts (nat_lt d (2 ^ 64)) (nat_lt e (2 ^ 64) && is_written_origin o) outer.1 in
-    let inner = and_parts (nat_lt e (2 ^ 64)) (is_written_origin o) middle.1 in
-    record { named = outer.0; read_small = ltb-true d (2 ^ 64) middle.0; left_small = ltb-true e (2 ^ 64) inner.0; origin_is = inner.1 }
+pub update_parts : (a : List ℕ) (d e : ℕ) (o : Origin) (span : Option Span) → is_written_op (UpdateOp a d e o span) ≡ true → IsWritableUpdate a d e o span
+update_parts a d e o span h =
+    let outer = and_parts (is_name a) (nat_lt d (2 ^ 64) && (nat_lt e (2 ^ 64) && (is_written_origin o && is_written_span span))) h in
+    let middle = and_parts (nat_lt d (2 ^ 64)) (nat_lt e (2 ^ 64) && (is_written_origin o && is_written_span span)) outer.1 in
+    let inner = and_parts (nat_lt e (2 ^ 64)) (is_written_origin o && is_written_span span) middle.1 in
+    let last = and_parts (is_written_origin o) (is_written_span span) inner.1 in
+    record { named = outer.0; read_small = ltb-true d (2 ^ 64) middle.0; left_small = ltb-true e (2 ^ 64) inner.0; origin_is = last.0; span_is = last.1 }
 
-pub read_origin : (a : List ℕ) (d : ℕ) (o : Origin) → is_written_op (ReadOp a d o) ≡ true → is_written_origin o ≡ true
-read_origin a d o h = (read_parts a d o h).origin_is
+pub read_origin : (a : List ℕ) (d : ℕ) (o : Origin) (span : Option Span) → is_written_op (ReadOp a d o span) ≡ true → is_written_origin o ≡ true
+read_origin a d o span h = (read_parts a d o span h).origin_is
 
-pub update_origin : (a : List ℕ) (d e : ℕ) (o : Origin) → is_written_op (UpdateOp a d e o) ≡ true → is_written_origin o ≡ true
-update_origin a d e o h = (update_parts a d e o h).origin_is
+pub update_origin : (a : List ℕ) (d e : ℕ) (o : Origin) (span : Option Span) → is_written_op (UpdateOp a d e o span) ≡ true → is_written_origin o ≡ true
+update_origin a d e o span h = (update_parts a d e o span h).origin_is
 
 pub value_parts : (a : List ℕ) (d : ℕ) → is_written_value (a, d) ≡ true → (is_name a ≡ true) × (d < 2 ^ 64)
 value_parts a d h = let parts = and_parts (is_name a) (nat_lt d (2 ^ 64)) h in (parts.0, ltb-true d (2 ^ 64) parts.1)
@@ -112,9 +129,9 @@ origin_names Initial h = refl
 origin_names (Operation n) h = and_from (is_name n.process) true (name_parts n h).named refl
 
 op_names : (op : Op) → is_written_op op ≡ true → list_all is_name (names_of (op_statement op)) ≡ true
-op_names (ReadOp a d o) h = let w = read_parts a d o h in and_from (is_name a) (list_all is_name (names_of_source (source_of o))) w.named (origin_names o w.origin_is)
-op_names (WriteOp a d) h = and_from (is_name a) true (value_parts a d h).0 refl
-op_names (UpdateOp a d e o) h = let w = update_parts a d e o h in and_from (is_name a) (list_all is_name (names_of_source (source_of o))) w.named (origin_names o w.origin_is)
+op_names (ReadOp a d o span) h = let w = read_parts a d o span h in and_from (is_name a) (list_all is_name (names_of_source (source_of o))) w.named (origin_names o w.origin_is)
+op_names (WriteOp a d span) h = and_from (is_name a) true (write_parts a d span h).named refl
+op_names (UpdateOp a d e o span) h = let w = update_parts a d e o span h in and_from (is_name a) (list_all is_name (names_of_source (source_of o))) w.named (origin_names o w.origin_is)
 
 pub entry_names : (e : Entry) → is_writable e ≡ true → list_all is_name (names_of (statement_for e)) ≡ true
 entry_names (InitialEntry a d) h = and_from (is_name a) true (value_parts a d h).0 refl
@@ -134,12 +151,25 @@ origin_places limits (Operation n) h k = and_from (is_place limits (decimal n.pl
 one_value : (d : ℕ) → d < 2 ^ 64 → (is_value (decimal d) && true) ≡ true
 one_value d small = and_from (is_value (decimal d)) true (decimal_is_value d small) refl
 
+-- times are numbers
+time_numbers : (span : Option Span) → is_written_span span ≡ true → has_time_numbers (times_said span) ≡ true
+time_numbers None h = refl
+time_numbers (Some span) h =
+    let parts = and_parts (nat_lt span.start (2 ^ 64)) (nat_lt span.end (2 ^ 64)) h in
+    and_from (is_value (decimal span.start)) (is_value (decimal span.end) && true) (decimal_is_value span.start (ltb-true span.start (2 ^ 64) parts.0)) (one_value span.end (ltb-true span.end (2 ^ 64) parts.1))
+
 op_numbers : (limits : Limits) (op : Op) → is_written_op op ≡ true → is_origin_within limits (origin_of op) ≡ true → has_numbers limits (op_statement op) ≡ true
-op_numbers limits (ReadOp a d o) h k = let w = read_parts a d o h in and_from (is_value (decimal d) && true) _ (one_value d w.small) (origin_places limits o w.origin_is k)
-op_numbers limits (WriteOp a d) h k = and_from (is_value (decimal d) && true) true (one_value d (value_parts a d h).1) refl
-op_numbers limits (UpdateOp a d e o) h k =
-    let w = update_parts a d e o h in
-    and_from (is_value (decimal d) && (is_value (decimal e) && true)) _ (and_from (is_value (decimal d)) (is_value (decimal e) && true) (decimal_is_value d w.read_small) (one_value e w.left_small)) (origin_places limits o w.origin_is k)
+op_numbers limits (ReadOp a d o span) h k =
+    let w = read_parts a d o span h in
+    and_from (is_value (decimal d) && has_time_numbers (times_said span)) _ (and_from (is_value (decimal d)) (has_time_numbers (times_said span)) (decimal_is_value d w.small) (time_numbers span w.span_is)) (origin_places limits o w.origin_is k)
+op_numbers limits (WriteOp a d span) h k =
+    let w = write_parts a d span h in
+    and_from (is_value (decimal d) && has_time_numbers (times_said span)) true (and_from (is_value (decimal d)) (has_time_numbers (times_said span)) (decimal_is_value d w.small) (time_numbers span w.span_is)) refl
+op_numbers limits (UpdateOp a d e o span) h k =
+    let w = update_parts a d e o span h in
+    and_from (is_value (decimal d) && (is_value (decimal e) && has_time_numbers (times_said span))) _
+    (and_from (is_value (decimal d)) (is_value (decimal e) && has_time_numbers (times_said span)) (decimal_is_value d w.read_small)
+    (and_from (is_value (decimal e)) (has_time_numbers (times_said span)) (decimal_is_value e w.left_small) (time_numbers span w.span_is))) (origin_places limits o w.origin_is k)
 
 pub entry_numbers : (limits : Limits) (e : Entry) → is_writable e ≡ true → is_entry_within limits e ≡ true → has_numbers limits (statement_for e) ≡ true
 entry_numbers limits (InitialEntry a d) h k = and_from (is_value (decimal d) && true) true (one_value d (value_parts a d h).1) refl
@@ -163,12 +193,24 @@ low_origin Any h = refl
 low_origin Initial h = refl
 low_origin (Operation n) h = or_from (high_word (codes "from")) (high_words (n.process ∷ decimal n.place ∷ [])) refl (low_op_name n [] h refl)
 
+low_times : (span : Option Span) → is_written_span span ≡ true → high_words (times_words (times_said span)) ≡ false
+low_times None h = refl
+low_times (Some span) h =
+    let parts = and_parts (nat_lt span.start (2 ^ 64)) (nat_lt span.end (2 ^ 64)) h in
+    or_from (high_word (codes "at")) _ refl (or_from (high_word (decimal span.start)) _ (low_decimal span.start (ltb-true span.start (2 ^ 64) parts.0))
+    (or_from (high_word (decimal span.end)) false (low_decimal span.end (ltb-true span.end (2 ^ 64) parts.1)) refl))
+
+low_last : (o : Origin) (span : Option Span) → is_written_origin o ≡ true → is_written_span span ≡ true → high_words (source_words (source_of o) ++ times_words (times_said span)) ≡ false
+low_last o span h k =
+    list_any-append high_word (source_words (source_of o)) (times_words (times_said span)) ∙ or_from (high_words (source_words (source_of o))) (high_words (times_words (times_said span))) (low_origin o h) (low_times span k)
+
 low_op : (op : Op) → is_written_op op ≡ true → high_words (words_for (op_statement op)) ≡ false
-low_op (ReadOp a d o) h = let w = read_parts a d o h in or_from (high_word (codes "R")) _ refl (low_pair a d (source_words (source_of o)) w.named w.small (low_origin o w.origin_is))
-low_op (WriteOp a d) h = let w = value_parts a d h in or_from (high_word (codes "W")) _ refl (low_pair a d [] w.0 w.1 refl)
-low_op (UpdateOp a d e o) h =
-    let w = update_parts a d e o h in
-    or_from (high_word (codes "U")) _ refl (low_pair a d (decimal e ∷ source_words (source_of o)) w.named w.read_small (or_from (high_word (decimal e)) (high_words (source_words (source_of o))) (low_decimal e w.left_small) (low_origin o w.origin_is)))
+low_op (ReadOp a d o span) h = let w = read_parts a d o span h in or_from (high_word (codes "R")) _ refl (low_pair a d (source_words (source_of o) ++ times_words (times_said span)) w.named w.small (low_last o span w.origin_is w.span_is))
+low_op (WriteOp a d span) h = let w = write_parts a d span h in or_from (high_word (codes "W")) _ refl (low_pair a d (times_words (times_said span)) w.named w.small (low_times span w.span_is))
+low_op (UpdateOp a d e o span) h =
+    let w = update_parts a d e o span h in
+    let last = source_words (source_of o) ++ times_words (times_said span) in
+    or_from (high_word (codes "U")) _ refl (low_pair a d (decimal e ∷ last) w.named w.read_small (or_from (high_word (decimal e)) (high_words last) (low_decimal e w.left_small) (low_last o span w.origin_is w.span_is)))
 
 pub entry_low : (e : Entry) → is_writable e ≡ true → high_words (words_for (statement_for e)) ≡ false
 entry_low (InitialEntry a d) h = let w = value_parts a d h in or_from (high_word (codes "init")) _ refl (low_pair a d [] w.0 w.1 refl)

@@ -4,7 +4,11 @@ use Rattle.std.specs.List.{slice_get}
 use Rattle.std.specs.Option.{option_map}
 use Rattle.std.proofs.lemmas.Option.{slice_get-map}
 use Rattle.trace_semantics.specs.declared.trace.Process.{Process}
+use Rattle.forced_order.specs.Times.{AreEnds}
 use Rattle.forced_order.proofs.closing.rows_of.Goals as goal
+
+pub close-requires-clause-ends : goal.close-requires-clause-ends
+close-requires-clause-ends c = subst (λ (ends : List (List ℕ)). AreEnds c.args.trace.now.processes ends) (sym c.as_slice-ends.ensures.value) c.in_ok-least.ensures
 
 pub close-requires-clause-rows : goal.close-requires-clause-rows
 close-requires-clause-rows c = λ j k p at most.

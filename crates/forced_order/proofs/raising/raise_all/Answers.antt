@@ -1,14 +1,14 @@
-use Rattle.std.proofs.Common.{List, subst}
 use Rattle.trace_semantics.specs.Trace.{TraceValue}
-use Rattle.forced_order.specs.declared.numbered.OperationNumber.{OperationNumber}
-use Rattle.forced_order.specs.Closed.{AreClosed, AreProcessesClosed, ArePairsClosed}
+use Rattle.forced_order.specs.Closed.{AreClosed, AreProcessesClosed, ArePairsClosed, AreTimesClosed}
+use Rattle.forced_order.specs.Forced.{numbered_pairs}
+use Rattle.forced_order.specs.Rows.{OrderValue}
 use Rattle.forced_order.proofs.RiseLemmas.{pass_joined}
 use Rattle.forced_order.proofs.raising.raise_all.Goals as goal
 
 pub returns : goal.returns
 returns c =
     let t : TraceValue = c.args.trace.now in
-    pass_joined t c.either.result c.raise_processes-first.result c.raise_pairs-second.result c.args.rows.now c.raise_processes-first.new.rows c.raise_pairs-second.new.rows
-    (AreProcessesClosed t.processes) (ArePairsClosed c.args.pairs.now) (AreClosed t) c.either.ensures
-    (λ u v. record { program = u; pairs = subst (λ (ps : List (OperationNumber × OperationNumber)). ArePairsClosed ps c.raise_pairs-second.new.rows) c.requires.pairs v })
-    c.raise_processes-first.ensures c.raise_pairs-second.ensures
+    pass_joined t c.either.result c.raise_said-said.result c.raise_times-timed.result c.args.rows.now c.raise_said-said.new.rows c.raise_times-timed.new.rows
+    (λ (order : OrderValue). AreProcessesClosed t.processes order × ArePairsClosed (numbered_pairs t) order) (AreTimesClosed t.processes) (AreClosed t) c.either.ensures
+    (λ u v. record { program = u.0; pairs = u.1; times = v })
+    c.raise_said-said.ensures c.raise_times-timed.ensures

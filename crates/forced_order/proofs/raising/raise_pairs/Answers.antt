@@ -5,7 +5,6 @@ use Rattle.std.proofs.lemmas.Option.{slice_get_within}
 use Rattle.trace_semantics.specs.Trace.{TraceValue}
 use Rattle.forced_order.specs.declared.numbered.OperationNumber.{OperationNumber}
 use Rattle.forced_order.specs.Closed.{ArePairsClosed, IsClosedStep}
-use Rattle.forced_order.specs.Rows.{OrderValue}
 use Rattle.forced_order.proofs.RiseLemmas.{no_pass, pass_joined, pass_as}
 use Rattle.forced_order.proofs.raising.raise_pairs.Goals as goal
 

@@ -5,7 +5,6 @@ use Rattle.trace_semantics.specs.declared.trace.Process.{Process}
 use Rattle.trace_semantics.specs.Trace.{TraceValue}
 use Rattle.forced_order.specs.declared.numbered.OperationNumber.{OperationNumber}
 use Rattle.forced_order.specs.Closed.{IsClosedStep, AreStepsClosed}
-use Rattle.forced_order.specs.Rows.{OrderValue}
 use Rattle.forced_order.proofs.RiseLemmas.{no_pass, pass_joined, pass_as}
 use Rattle.forced_order.proofs.raising.raise_process.Goals as goal
 

@@ -1,11 +1,10 @@
-use Rattle.std.proofs.Common.{◌≡◌, ◌<◌, ◌+◌, ℕ, length, ap, subst, below_more, arith}
+use Rattle.std.proofs.Common.{◌≡◌, ◌<◌, ◌+◌, ℕ, length, ap, below_more, arith}
 use Rattle.std.specs.Prelude.{Some}
 use Rattle.std.specs.List.{slice_get}
 use Rattle.std.proofs.lemmas.Option.{slice_get_within}
 use Rattle.trace_semantics.specs.declared.trace.Process.{Process}
 use Rattle.trace_semantics.specs.Trace.{TraceValue}
 use Rattle.forced_order.specs.Closed.{AreProcessesClosed, AreStepsClosed}
-use Rattle.forced_order.specs.Rows.{OrderValue}
 use Rattle.forced_order.proofs.RiseLemmas.{no_pass, pass_joined, pass_as}
 use Rattle.forced_order.proofs.raising.raise_processes.Goals as goal
 

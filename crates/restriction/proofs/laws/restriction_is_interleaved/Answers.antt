@@ -2,4 +2,4 @@ use Rattle.restriction.proofs.RestrictLemmas.{restriction_interleaves}
 use Rattle.restriction.proofs.laws.restriction_is_interleaved.Goals as goal
 
 pub returns : goal.returns
-returns c t q stays names ok made pairs given = restriction_interleaves t q ok stays made names given pairs
+returns c t q stays names ok made pairs spans given = restriction_interleaves t q ok stays made names given pairs spans

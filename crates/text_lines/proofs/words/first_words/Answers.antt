@@ -10,7 +10,7 @@ loop-rest-preserved c =
     let seen : Bor (List ℕ) → List ℕ = λ (w : Bor (List ℕ)). w.now in
     let added : map seen c.push.new.self ≡ map seen c.loop-rest.words ++ c.in-Some.word.now ∷ [] =
     ap (map seen) c.push.ensures ∙ map-append seen c.loop-rest.words (c.in-Some.word ∷ []) in
-    let few : length c.loop-rest.words < 8 = grind (arith, nat_tests, c.loop-rest-test.true, c.is_full.ensures.full, c.is_full.ensures.few) in
-    let room : length (map seen c.loop-rest.words) < 8 = omega (arith, length-map c.loop-rest.words seen, few) in
-    subst (λ ws. AreFirstWords 8 c.args.line.now ws c.in-Some.after.now) (sym added)
-    (one_more_word 8 c.args.line.now c.loop-rest.rest.now c.in-Some.after.now c.in-Some.word.now (map seen c.loop-rest.words) c.loop-rest.invariant room c.in-Some.ensures.words)
+    let few : length c.loop-rest.words < 11 = grind (arith, nat_tests, c.loop-rest-test.true, c.is_full.ensures.full, c.is_full.ensures.few) in
+    let room : length (map seen c.loop-rest.words) < 11 = omega (arith, length-map c.loop-rest.words seen, few) in
+    subst (λ ws. AreFirstWords 11 c.args.line.now ws c.in-Some.after.now) (sym added)
+    (one_more_word 11 c.args.line.now c.loop-rest.rest.now c.in-Some.after.now c.in-Some.word.now (map seen c.loop-rest.words) c.loop-rest.invariant room c.in-Some.ensures.words)

@@ -2,19 +2,21 @@ use Rattle.std.proofs.Common.{◌≡◌, ℕ, ◌-◌, ◌<◌, List, ◌∷◌,
 use Rattle.std.specs.Prelude.{Some, None, IsSome, is_some}
 use Rattle.std.specs.List.{Contains, filter}
 use Rattle.std.proofs.lemmas.Bool.{cases_order, false_from_ne_true}
-use Rattle.std.proofs.lemmas.List.Elements.{All-contains, Contains-append_left, Contains-append_cases}
+use Rattle.std.proofs.lemmas.List.Elements.{All-contains, Contains-append_left, Contains-append_right, Contains-append_cases}
 use Rattle.text_lines.specs.FirstFault.{IsFaultless}
 use Rattle.text_lines.proofs.FaultLemmas.{compared}
 use Rattle.trace_semantics.specs.declared.operation.Op.{Op}
 use Rattle.trace_semantics.specs.declared.operation.OpName.{OpName}
 use Rattle.trace_semantics.specs.Interleaving.{StandsBefore}
-use Rattle.trace_semantics.specs.Judgement.{has_come, is_held, put_before, fault_at, fault_of_whole}
+use Rattle.trace_semantics.specs.Judgement.{has_come, is_held, paired_before, timed_before, put_before, fault_at, fault_of_whole}
+use Rattle.trace_semantics.specs.KnownOrder.{ended_before, IsKnownBefore}
 use Rattle.trace_semantics.specs.Legal.{ReadsRight, IsLegal}
 use Rattle.trace_semantics.specs.Operation.{location_of, value_read, origin_of, same_op}
 use Rattle.trace_semantics.specs.Trace.{TraceValue, IsTrace, operation_at, operation_names, first_names, value_of}
 use Rattle.trace_semantics.specs.ValueAfter.{value_after}
 use Rattle.trace_semantics.proofs.CauseLemmas.{IsFine, known_fine, IsFineWhole, whole_from_none, held_same, read_right, source_right, fine_known, none_from_whole, same_held, right_read, right_source}
 use Rattle.trace_semantics.proofs.ElementLemmas.{placed, in_middle, all_pass, to_map, to_filter, pass_all, from_map, from_filter, cases_in}
+use Rattle.trace_semantics.proofs.KnownOrderLemmas.{both_timed}
 use Rattle.trace_semantics.proofs.NameLemmas.{name_same, come_in, in_come, to_first, known_named, known_listed, same_name, from_first, earlier_known, listed_known, some_value}
 use Rattle.trace_semantics.proofs.OrderLemmas.{stands_behind, follows, given_entry, stands_ahead, entry_given}
 use Rattle.trace_semantics.proofs.laws.legal_exactly_where_faultless.Goals as goal
@@ -42,14 +44,22 @@ module _ (t : TraceValue) (names : List OpName) (ok : IsTrace t) (legal : IsLega
         ]
       ]
 
-  -- what a pair puts before it has come
-  pair_came : (m : OpName) → Contains (put_before t n) m → Contains before m
-  pair_came m c =
-      let at = from_map (λ (pair : OpName × OpName). pair.0) (filter (λ (pair : OpName × OpName). same_op pair.1 n) t.before) m c in
-      let kept = from_filter (λ (pair : OpName × OpName). same_op pair.1 n) t.before at.0 at.1 in
-      let second : at.0.1 ≡ n = same_name at.0.1 n kept.1 in
-      let pair : at.0 ≡ (m, n) = λ i. (at.2 i, second i) in
-      let at_n = follows names m n (legal.interleaving.before_pairs m n (subst (λ p. Contains t.before p) pair kept.0)) in
+  -- what the trace puts before it
+  known_before : (m : OpName) → Contains (put_before t n) m → IsKnownBefore t m n
+  known_before m c = elim (Contains-append_cases (paired_before t n) (timed_before t n) m c) [
+    | inl paired ↦ (
+        let at = from_map (λ (pair : OpName × OpName). pair.0) (filter (λ (pair : OpName × OpName). same_op pair.1 n) t.before) m paired in
+        let kept = from_filter (λ (pair : OpName × OpName). same_op pair.1 n) t.before at.0 at.1 in
+        let second : at.0.1 ≡ n = same_name at.0.1 n kept.1 in
+        let pair : at.0 ≡ (m, n) = λ i. (at.2 i, second i) in
+        inl (subst (λ p. Contains t.before p) pair kept.0))
+    | inr timed ↦ inr (from_filter (λ k. ended_before t k n) (operation_names t) m timed).1
+  ]
+
+  -- has come
+  put_came : (m : OpName) → Contains (put_before t n) m → Contains before m
+  put_came m c =
+      let at_n = follows names m n (legal.interleaving.known_order m n (known_before m c)) in
       elim (compared before at_n.before n n after at_n.after (sym e ∙ at_n.parts)) [
         | inl same ↦ subst (λ l. Contains l m) (sym same.0) at_n.come
         | inr (inl (middle, f)) ↦ absurd (legal.interleaving.once n (stands_behind names at_n.before n at_n.after n at_n.parts (subst (λ l. Contains l n) (sym f) (in_middle before n middle))))
@@ -64,7 +74,7 @@ module _ (t : TraceValue) (names : List OpName) (ok : IsTrace t) (legal : IsLega
         new = not_come;
         ordered = pass_all (has_come before) (first_names n.process (n.place - 1)) (λ m c. in_come before m (earlier_came m c));
         reads = right_read (value_after t (location_of op.0) before) (value_read op.0) right.value;
-        put = pass_all (has_come before) (put_before t n) (λ m c. in_come before m (pair_came m c));
+        put = pass_all (has_come before) (put_before t n) (λ m c. in_come before m (put_came m c));
         source = right_source t before (location_of op.0) (origin_of op.0) right.source;
       })
 
@@ -115,14 +125,20 @@ module _ (t : TraceValue) (names : List OpName) (ok : IsTrace t) (faultless : Is
         | inr (inr g) ↦ absurd (not_later m n s same g)
       ]
 
-  pairs_kept : (m n : OpName) → Contains t.before (m, n) → StandsBefore names m n
-  pairs_kept m n c =
-      let known = All-contains (λ (pair : OpName × OpName). IsSome (operation_at t pair.0) × IsSome (operation_at t pair.1)) t.before (m, n) ok.known c in
-      let at = placed names n (each_comes n known.1) in
+  put_stands : (m n : OpName) → IsSome (operation_at t n) → Contains (put_before t n) m → StandsBefore names m n
+  put_stands m n known listed =
+      let at = placed names n (each_comes n known) in
       let fine = here_is_fine at.front n at.back at.parts in
-      let listed = to_map (λ (pair : OpName × OpName). pair.0) (filter (λ (pair : OpName × OpName). same_op pair.1 n) t.before) (m, n)
-      (to_filter (λ (pair : OpName × OpName). same_op pair.1 n) t.before (m, n) (name_same n n refl) c) in
       stands_behind names at.front n at.back m at.parts (come_in at.front m (all_pass (has_come at.front) (put_before t n) fine.2.put m listed))
+
+  order_kept : (m n : OpName) → IsKnownBefore t m n → StandsBefore names m n
+  order_kept m n (inl c) =
+      let known = All-contains (λ (pair : OpName × OpName). IsSome (operation_at t pair.0) × IsSome (operation_at t pair.1)) t.before (m, n) ok.known c in
+      put_stands m n known.1 (Contains-append_left (paired_before t n) (timed_before t n) m (to_map (λ (pair : OpName × OpName). pair.0) (filter (λ (pair : OpName × OpName). same_op pair.1 n) t.before) (m, n)
+      (to_filter (λ (pair : OpName × OpName). same_op pair.1 n) t.before (m, n) (name_same n n refl) c)))
+  order_kept m n (inr h) =
+      let known = both_timed t m n h in
+      put_stands m n known.1 (Contains-append_right (paired_before t n) (timed_before t n) m (to_filter (λ k. ended_before t k n) (operation_names t) m h (known_listed t m known.0)))
 
   reads_right : (before : List OpName) (n : OpName) (after : List OpName) (op : Op) → names ≡ before ++ n ∷ after → operation_at t n ≡ Some op → ReadsRight t before op
   reads_right before n after op e known =
@@ -146,7 +162,7 @@ legal_from_faultless t names ok faultless none =
         only = only_known t names ok faultless whole;
         once = comes_once t names ok faultless whole;
         program_order = in_order t names ok faultless whole;
-        before_pairs = pairs_kept t names ok faultless whole;
+        known_order = order_kept t names ok faultless whole;
       };
       reads = reads_right t names ok faultless whole;
       finals = ends_right t names ok faultless whole;

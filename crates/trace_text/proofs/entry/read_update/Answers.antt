@@ -1,22 +1,33 @@
-use Rattle.std.proofs.Common.{◌≡◌, Bool, true, false, ◌&&◌, rules}
+use Rattle.std.proofs.Common.{◌∷◌}
+use Rattle.std.specs.List.{list_all}
 use Rattle.std.proofs.lemmas.Result.{err_from_is_err_and}
-use Rattle.text_lines.specs.declared.plain_fault.PlainFault.{PlainFault}
-use Rattle.text_lines.specs.declared.plain_fault.PlainFault.TheVariants.{OutOfMemory, For}
-use Rattle.text_lines.specs.PlainFault.{IsRefusedFor}
-use Rattle.trace_text.specs.declared.trace_fault.TraceCause.{TraceCause}
-use Rattle.trace_text.specs.Entry.{number_fault}
-use Rattle.trace_text.specs.TraceFault.{is_value}
+use Rattle.trace_text.specs.Entry.{has_numbers, has_place, has_time_numbers}
+use Rattle.trace_text.specs.Said.{said_source, said_times}
+use Rattle.trace_text.specs.Statement.{Update}
+use Rattle.trace_text.specs.TraceFault.{is_value, time_words}
+use Rattle.trace_text.proofs.Reading.NumberLemmas.{refused_part, middle_part, third_part, last_part}
 use Rattle.trace_text.proofs.entry.read_update.Goals as goal
-
--- the second of two values is none
-second_value : (a b rest : Bool) (r : PlainFault TraceCause) → a ≡ true → IsRefusedFor (number_fault b) r → IsRefusedFor (number_fault ((a && (b && true)) && rest)) r
-second_value true true rest OutOfMemory h k = tt
-second_value true true rest (For cause) h k = absurd (cc)
-second_value true false rest r h k = k
-second_value false b rest r h k = absurd (cc)
 
 pub returns-in_err-location-clause-refused : goal.returns-in_err-location-clause-refused
 returns-in_err-location-clause-refused c =
     let p = err_from_is_err_and c.from_residual.result c.from_residual.ensures.1 in
-    let fine : is_value c.args.read.now ≡ true = search rules in
-    rw (p.1, p.2) (second_value (is_value c.args.read.now) (is_value c.args.left.now) _ _ fine c.in_err-location.ensures.refused)
+    let source = said_source c.args.source in
+    let times = said_times c.args.times in
+    rw (p.1, p.2) (refused_part (has_numbers c.args.limits (Update c.args.location.now c.args.read.now c.args.left.now source times)) (is_value c.args.left.now) _
+    (middle_part (is_value c.args.read.now) (is_value c.args.left.now) (has_time_numbers times) (has_place c.args.limits source)) c.in_err-location.ensures.refused)
+
+pub returns-in_err-origin-clause-refused : goal.returns-in_err-origin-clause-refused
+returns-in_err-origin-clause-refused c =
+    let p = err_from_is_err_and c.from_residual-in_err-origin.result c.from_residual-in_err-origin.ensures.1 in
+    let source = said_source c.args.source in
+    let times = said_times c.args.times in
+    rw (p.1, p.2) (refused_part (has_numbers c.args.limits (Update c.args.location.now c.args.read.now c.args.left.now source times)) (has_place c.args.limits source) _
+    (last_part (list_all is_value (c.args.read.now ∷ c.args.left.now ∷ time_words times)) (has_place c.args.limits source)) c.in_err-origin.ensures.refused)
+
+pub returns-in_err-span-clause-refused : goal.returns-in_err-span-clause-refused
+returns-in_err-span-clause-refused c =
+    let p = err_from_is_err_and c.from_residual-in_err-span.result c.from_residual-in_err-span.ensures.1 in
+    let source = said_source c.args.source in
+    let times = said_times c.args.times in
+    rw (p.1, p.2) (refused_part (has_numbers c.args.limits (Update c.args.location.now c.args.read.now c.args.left.now source times)) (has_time_numbers times) _
+    (third_part (is_value c.args.read.now) (is_value c.args.left.now) (has_time_numbers times) (has_place c.args.limits source)) c.in_err-span.ensures.refused)

@@ -1,4 +1,4 @@
-use Rattle.std.proofs.Common.{◌≡◌, ◌∙◌, List, ℕ, sym, subst, Bool, arith}
+use Rattle.std.proofs.Common.{◌≡◌, ◌∙◌, List, ℕ, sym, subst, arith}
 use Rattle.std.proofs.lemmas.Result.{err_from_is_err_and}
 use Rattle.text_lines.specs.FirstFault.{IsFaultless}
 use Rattle.text_lines.specs.Lines.{lines_of}
@@ -7,7 +7,6 @@ use Rattle.trace_semantics.specs.Trace.{TraceValue, IsTrace}
 use Rattle.trace_text.specs.Gathered.{processes_of, trace_of, IsArranged}
 use Rattle.trace_text.specs.References.{fault_of_line, IsRefusedByReferences}
 use Rattle.trace_text.specs.TraceText.{SpellsTrace}
-use Rattle.trace_text.specs.Version.{has_version_2_lines}
 use Rattle.trace_text.specs.declared.trace_builder.TraceBuilder.{TraceBuilder}
 use Rattle.trace_text.specs.declared.trace_reader.TraceReader.{TraceReader}
 use Rattle.trace_text.specs.Read.{IsAllRead}
@@ -44,10 +43,10 @@ gathered text version reader r =
     }
 
 -- what is gathered, in order, is a trace
-is_trace : (text : List ℕ) (version : Version) (reader : TraceReader) (t : TraceValue) → IsAllRead text version reader → IsArranged (trace_of reader.gathered) t → IsFaultless (λ (before : List (List ℕ)) (here : List ℕ). fault_of_line (has_version_2_lines version) t.processes here) (lines_of text) → IsTrace t
+is_trace : (text : List ℕ) (version : Version) (reader : TraceReader) (t : TraceValue) → IsAllRead text version reader → IsArranged (trace_of reader.gathered) t → IsFaultless (λ (before : List (List ℕ)) (here : List ℕ). fault_of_line version t.processes here) (lines_of text) → IsTrace t
 is_trace text version reader t r a f = trace_arranged version (lines_of text) r.ss (trace_of reader.gathered) t r.said (gathered text version reader r) a f
 
-spells : (text : List ℕ) (version : Version) (reader : TraceReader) (t : TraceValue) → IsAllRead text version reader → IsArranged (trace_of reader.gathered) t → IsFaultless (λ (before : List (List ℕ)) (here : List ℕ). fault_of_line (has_version_2_lines version) t.processes here) (lines_of text) → SpellsTrace text t
+spells : (text : List ℕ) (version : Version) (reader : TraceReader) (t : TraceValue) → IsAllRead text version reader → IsArranged (trace_of reader.gathered) t → IsFaultless (λ (before : List (List ℕ)) (here : List ℕ). fault_of_line version t.processes here) (lines_of text) → SpellsTrace text t
 spells text version reader t r a f = spells_arranged version text r.ss (trace_of reader.gathered) t r.said (gathered text version reader r) a f
 
 pub returns-in_err-check_references-clause-refused : goal.returns-in_err-check_references-clause-refused
@@ -55,17 +54,17 @@ returns-in_err-check_references-clause-refused c =
     let p = err_from_is_err_and c.from_residual-in_err-check_references.result c.from_residual-in_err-check_references.ensures.1 in
     let same : c.processes.result.now ≡ processes_of c.args.reader.gathered = c.processes.ensures ∙ c.in_ok-close_process.ensures.processes in
     rw (p.1, p.2) (refused_by_references c.args.version c.args.text.now c.requires.ss (processes_of c.args.reader.gathered) c.in_err-check_references.field-0.0 c.requires.said c.requires.progress.gathered.processes c.requires.faultless
-    (subst (λ (ps : List Process). IsRefusedByReferences (has_version_2_lines c.args.version) ps c.args.text.now c.in_err-check_references.field-0.0) same c.in_err-check_references.ensures.refused))
+    (subst (λ (ps : List Process). IsRefusedByReferences c.args.version ps c.args.text.now c.in_err-check_references.field-0.0) same c.in_err-check_references.ensures.refused))
 
 pub into_trace-requires-clause-trace : goal.into_trace-requires-clause-trace
 into_trace-requires-clause-trace c =
     let all = same_trace c.args.reader.gathered c.close_process.new.self c.in_ok-close_process.ensures.processes c.close_process.ensures.initial c.close_process.ensures.final_values c.close_process.ensures.before in
     is_trace c.args.text.now c.args.version c.args.reader (trace_of c.arrange.new.self) c.requires (subst (λ (u : TraceValue). IsArranged u (trace_of c.arrange.new.self)) all c.in_ok-arrange.ensures.arranged)
-    (subst (λ (ps : List Process). IsFaultless (λ (before : List (List ℕ)) (here : List ℕ). fault_of_line (has_version_2_lines c.args.version) ps here) (lines_of c.args.text.now)) (c.processes.ensures ∙ sym c.in_ok-arrange.ensures.arranged.processes) c.in_ok-check_references.ensures.fine)
+    (subst (λ (ps : List Process). IsFaultless (λ (before : List (List ℕ)) (here : List ℕ). fault_of_line c.args.version ps here) (lines_of c.args.text.now)) (c.processes.ensures ∙ sym c.in_ok-arrange.ensures.arranged.processes) c.in_ok-check_references.ensures.fine)
 
 pub returns-clause-spelled : goal.returns-clause-spelled
 returns-clause-spelled c =
     let all = same_trace c.args.reader.gathered c.close_process.new.self c.in_ok-close_process.ensures.processes c.close_process.ensures.initial c.close_process.ensures.final_values c.close_process.ensures.before in
     subst (λ (t : TraceValue). SpellsTrace c.args.text.now t) (sym c.into_trace.ensures) (spells c.args.text.now c.args.version c.args.reader (trace_of c.arrange.new.self) c.requires
     (subst (λ (u : TraceValue). IsArranged u (trace_of c.arrange.new.self)) all c.in_ok-arrange.ensures.arranged)
-    (subst (λ (ps : List Process). IsFaultless (λ (before : List (List ℕ)) (here : List ℕ). fault_of_line (has_version_2_lines c.args.version) ps here) (lines_of c.args.text.now)) (c.processes.ensures ∙ sym c.in_ok-arrange.ensures.arranged.processes) c.in_ok-check_references.ensures.fine))
+    (subst (λ (ps : List Process). IsFaultless (λ (before : List (List ℕ)) (here : List ℕ). fault_of_line c.args.version ps here) (lines_of c.args.text.now)) (c.processes.ensures ∙ sym c.in_ok-arrange.ensures.arranged.processes) c.in_ok-check_references.ensures.fine))

@@ -1,4 +1,4 @@
-use Rattle.std.proofs.Common.{◌≡◌, ◌≤◌, ◌<◌, ◌+◌, ℕ, sym, ◌∙◌, subst, below_more, arith}
+use Rattle.std.proofs.Common.{◌≤◌, ◌<◌, ◌+◌, ℕ, sym, ◌∙◌, subst, below_more, arith}
 use Rattle.std.proofs.lemmas.Bool.{or_parts}
 use Rattle.forced_order.specs.Rows.{OrderValue, last_before}
 use Rattle.forced_order.proofs.RiseLemmas.{rise_as, rise_joined}

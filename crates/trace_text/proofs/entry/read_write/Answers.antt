@@ -1,0 +1,22 @@
+use Rattle.std.proofs.Common.{true}
+use Rattle.std.proofs.lemmas.Result.{err_from_is_err_and}
+use Rattle.trace_text.specs.Entry.{has_numbers, has_time_numbers}
+use Rattle.trace_text.specs.Said.{said_times}
+use Rattle.trace_text.specs.Statement.{Write}
+use Rattle.trace_text.specs.TraceFault.{is_value}
+use Rattle.trace_text.proofs.Reading.NumberLemmas.{refused_part, first_part, second_part}
+use Rattle.trace_text.proofs.entry.read_write.Goals as goal
+
+pub returns-in_err-location-clause-refused : goal.returns-in_err-location-clause-refused
+returns-in_err-location-clause-refused c =
+    let p = err_from_is_err_and c.from_residual.result c.from_residual.ensures.1 in
+    let times = said_times c.args.times in
+    rw (p.1, p.2) (refused_part (has_numbers c.args.limits (Write c.args.location.now c.args.value.now times)) (is_value c.args.value.now) _
+    (first_part (is_value c.args.value.now) (has_time_numbers times) true) c.in_err-location.ensures.refused)
+
+pub returns-in_err-span-clause-refused : goal.returns-in_err-span-clause-refused
+returns-in_err-span-clause-refused c =
+    let p = err_from_is_err_and c.from_residual-in_err-span.result c.from_residual-in_err-span.ensures.1 in
+    let times = said_times c.args.times in
+    rw (p.1, p.2) (refused_part (has_numbers c.args.limits (Write c.args.location.now c.args.value.now times)) (has_time_numbers times) _
+    (second_part (is_value c.args.value.now) (has_time_numbers times) true) c.in_err-span.ensures.refused)

@@ -1,0 +1,3 @@
+pub mod RisingLemmas
+pub mod SaidLemmas
+pub mod UntimedLemmas
