@@ -8,6 +8,6 @@ use Rattle.reason_clauses.specs.RefusedBy.{IsMissingNumber}
 use Rattle.reason_clauses.specs.declared.cause.ReasonCause.{ReasonCause}
 use Rattle.reason_clauses.specs.declared.cause.ReasonCause.TheVariants.{NoPair}
 
--- the trace has not both operations, or it has them and does not put the first before the second
+-- the trace has not both operations, or it has them and no before pair of the first and the second
 abbrev pub IsPairRefused : TraceValue → OrderPair → ReasonCause → Type 0
 IsPairRefused t order cause = (IsMissingNumber t order.first cause ⊎ IsMissingNumber t order.second cause) ⊎ ((Contains t.before (named_order t order) → ⊥) × (cause ≡ NoPair))

@@ -26,7 +26,7 @@ pub enum ReasonLine<'a> {
     Skipped,
     /// `c ..`: the operations do not stand in a cycle.
     Cycle(Vec<OperationPlace>),
-    /// `b U V`: the trace says that the first operation stands before the second.
+    /// `b U V`: the trace has a before pair of the first operation and the second.
     Before(OrderPair),
     /// `t U V`: the first operation had ended before the second began.
     Ended(OrderPair),

@@ -33,9 +33,10 @@ const THIN_AIR: &str = "vsc 1\ninit z 0\nfinal z 1\nproc P\nR x 1\nW y 1\nproc Q
 const UNENDED_TURN: &str =
     "vsc 1\ninit l 0\ninit x 0\nproc P\nU l 0 1\nR x 1\nW l 0\nproc Q\nU l 0 1\nW x 1\n";
 
-/// The read of the initial value begins after a write of another one had ended; the second read had ended before both, and the third has no times.
+/// The read of the initial value begins after a write of another one had ended; the second read had ended before both, the third has no times, and
+/// the last one begins when the write ends.
 const LATE_START: &str =
-    "vsc 3\ninit x 0\nproc P\nW x 1 at 10 20\nproc Q\nR x 0 at 21 30\nR x 1 at 5 9\nR x 1\nW y 1 at 40 41\n";
+    "vsc 3\ninit x 0\nproc P\nW x 1 at 10 20\nproc Q\nR x 0 at 21 30\nR x 1 at 5 9\nR x 1\nW y 1 at 40 41\nR x 1 at 20 50\n";
 
 /// Asserts what the check of the certificate, without its header, answers for the trace.
 fn assert_checked(
@@ -177,12 +178,13 @@ const REFUSED_COUNTS: [(&str, ReasonCause); 14] = [
 ];
 
 /// Lines of times, and why they are refused.
-const REFUSED_TIMES: [(&str, ReasonCause); 8] = [
+const REFUSED_TIMES: [(&str, ReasonCause); 9] = [
     ("t P.1", ReasonCause::BadLine),
     ("t P.1 Q.1 Q.2", ReasonCause::BadLine),
-    ("t P.1 Q.5", ReasonCause::NoOperation),
+    ("t P.1 Q.6", ReasonCause::NoOperation),
     ("t Q.1 P.1", ReasonCause::NoPair),
     ("t P.1 Q.3", ReasonCause::NoPair),
+    ("t P.1 Q.5", ReasonCause::NoPair),
     ("t Q.3 P.1", ReasonCause::NoPair),
     ("b P.1 Q.1", ReasonCause::NoPair),
     ("t Q.1 Q.4", ReasonCause::AlwaysTrue),
