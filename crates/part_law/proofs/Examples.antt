@@ -46,7 +46,7 @@ second_alone : part small (λ m n. false) (λ n. bytes_eq n.process q_name) ≡ 
 }
 second_alone = refl
 
--- P: W x 1 from time 1 to 2. Q: W x 2 from time 3 to 4
+-- P: W x 1. Q: W x 2. Each has the times that are given, if any are
 abbrev pub two_writes : Option Span → Option Span → List (OpName × OpName) → TraceValue
 two_writes first second before = record {
   processes = record { name = p_name; operations = Write x_name 1 first ∷ [] } ∷ record { name = q_name; operations = Write x_name 2 second ∷ [] } ∷ [];
