@@ -319,6 +319,11 @@ impl FoundOrder {
         Ok(())
     }
 
+    /// Returns whether an arrow between the boxes would say something new, of an order that is not contradicted yet.
+    fn is_open(&self, from: usize, to: usize) -> bool {
+        !self.is_contradicted && !self.relation.holds(from, to)
+    }
+
     /// Adds what times say of boxes that are drawn, unless that is known, until the order is contradicted.
     fn add_timed(
         &mut self,
@@ -328,11 +333,30 @@ impl FoundOrder {
     ) -> Result<(), AllocError> {
         for to in 0..items.len() {
             for from in 0..items.len() {
-                if !self.is_contradicted
-                    && !self.relation.holds(from, to)
-                    && is_nearest_timed(items, trace, from, to)
-                {
+                if self.is_open(from, to) && is_nearest_timed(items, trace, from, to) {
                     self.add(alloc, from, to, ArrowKind::Before)?;
+                }
+            }
+        }
+        Ok(())
+    }
+
+    /// Adds that two boxes stand before each other by the known order, unless the order is contradicted already.
+    fn add_circle(
+        &mut self,
+        alloc: Global,
+        items: &[PictureItem<'_>],
+        part: PartTrace<'_>,
+    ) -> Result<(), AllocError> {
+        for second in 0..items.len() {
+            for first in 0..second {
+                if is_known(items, part, first, second) && is_known(items, part, second, first) {
+                    if self.is_open(first, second) {
+                        self.add(alloc, first, second, ArrowKind::Before)?;
+                    }
+                    if self.is_open(second, first) {
+                        self.add(alloc, second, first, ArrowKind::Before)?;
+                    }
                 }
             }
         }
@@ -365,14 +389,16 @@ impl FoundOrder {
         found.add_ends(items);
         found.add_program(alloc, items)?;
         found.add_known(alloc, items, part)?;
-        // The known order puts no box of a circle nearest to another: then the lines and the times themselves show it.
+        // The known order puts no box of a circle nearest to another: then the lines and the times themselves show it. Where the
+        // circle goes through operations that are not drawn, two boxes of it do.
         found.add_before(alloc, items, part.trace)?;
         found.add_timed(alloc, items, part.trace)?;
+        found.add_circle(alloc, items, part)?;
         Ok(found)
     }
 }
 
-/// Returns whether the known order has the one before the other, which is of another process.
+/// Returns whether the known order has the one before the other.
 fn is_known(items: &[PictureItem<'_>], part: PartTrace<'_>, from: usize, to: usize) -> bool {
     match (items.get(from), items.get(to)) {
         (Some(first), Some(second)) => {
