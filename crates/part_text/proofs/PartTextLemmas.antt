@@ -217,5 +217,6 @@ text_spells t names p true ok given =
       before = plain.before;
       few_before = plain.few_before;
       lines_known = plain.lines_known;
+      times_known = plain.times_known;
       fits = plain.fits;
     }
