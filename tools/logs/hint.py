@@ -3,6 +3,8 @@
 import collections
 import heapq
 
+from logs.mistakes import CIRCLE, Mistake
+
 WAYS = ("rows", "start", "end")
 
 
@@ -29,28 +31,67 @@ def keys(log, way):
     return found
 
 
-def schedule(log, orders, way):
-    """The operations in that order, but that none comes before what stands before it in its process or by an order that is known."""
-    key, after, waiting = keys(log, way), collections.defaultdict(list), collections.Counter()
-    for earlier, later in orders:
-        after[earlier].append(later)
-        waiting[later] += 1
-    # By process the place of its next operation, which may wait for others.
-    following = {process: 1 for process in log.processes}
-    ready = [(own[0], process) for process, own in key.items() if own and not waiting[(process, 1)]]
-    heapq.heapify(ready)
-    while ready:
-        _, process = heapq.heappop(ready)
-        place = following[process]
-        following[process] += 1
-        yield log.processes[process][place - 1]
-        freed = {process}
-        for other in after.get((process, place), ()):
-            waiting[other] -= 1
-            freed.add(other[0])
-        for name in freed:
-            at = following[name]
-            is_next = at <= len(key[name]) and not waiting.get((name, at), 0)
-            # The operation of another process is ready by this one only if it waited for it.
-            if is_next and (name == process or (name, at) in after[(process, place)]):
-                heapq.heappush(ready, (key[name][at - 1], name))
+class Schedule:
+    """The operations of a log, one by one: of those that may come next the first one by its key."""
+
+    def __init__(self, log, orders, way, with_times):
+        self.log, self.key = log, keys(log, way)
+        # By operation those that an order puts behind it, and how many operations in front of it have not come.
+        self.behind, self.lacking = collections.defaultdict(list), collections.Counter()
+        for earlier, later in orders:
+            self.behind[earlier].append(later)
+            self.lacking[later] += 1
+        # By process the place of its next operation.
+        self.following = dict.fromkeys(log.processes, 1)
+        # All ends, and how many of the first of them have come.
+        self.ends = sorted((op.end, op.process, op.place) for op in log.operations() if op.end is not None) if with_times else []
+        self.ended = 0
+        # Next operations of processes: those that may come, by their keys, and those that wait for ends before their starts, by these.
+        self.ready, self.early = [], []
+        for process in log.processes:
+            self.offer(process)
+
+    def offer(self, process):
+        """Puts the next operation of a process among those that may come or that wait for ends, unless an order keeps it back."""
+        place, operations = self.following[process], self.log.processes[process]
+        if place > len(operations) or self.lacking.get((process, place), 0):
+            return
+        start = operations[place - 1].start
+        if start is not None and self.ended < len(self.ends) and self.ends[self.ended][0] < start:
+            heapq.heappush(self.early, (start, process))
+        else:
+            heapq.heappush(self.ready, (self.key[process][place - 1], process))
+
+    def pass_ends(self):
+        """Passes the ends of operations that have come, and offers what waited for them."""
+        ends, ended, following = self.ends, self.ended, self.following
+        while ended < len(ends) and ends[ended][2] < following[ends[ended][1]]:
+            ended += 1
+        self.ended = ended
+        while self.early and (ended == len(ends) or self.early[0][0] <= ends[ended][0]):
+            self.offer(heapq.heappop(self.early)[1])
+
+    def operations(self):
+        while self.ready:
+            _, process = heapq.heappop(self.ready)
+            place = self.following[process]
+            self.following[process] += 1
+            yield self.log.processes[process][place - 1]
+            freed = [process]
+            for other in self.behind.get((process, place), ()):
+                self.lacking[other] -= 1
+                if other[0] != process and other[1] == self.following[other[0]] and not self.lacking[other]:
+                    freed.append(other[0])
+            for name in freed:
+                self.offer(name)
+            if self.ends:
+                self.pass_ends()
+
+
+def schedule(log, orders, way, with_times=False):
+    """The operations in that order, but that none comes before what stands before it in its process, by an order that is known, or by times if
+    these count."""
+    found = list(Schedule(log, orders, way, with_times).operations())
+    if len(found) < log.count():
+        raise Mistake(CIRCLE)
+    return found

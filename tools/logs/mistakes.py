@@ -4,6 +4,7 @@ import sys
 
 # So many of a kind are named; of the others a note says how many they are.
 MOST_NAMED = 8
+CIRCLE = "times and barriers go round in a circle: no order of the operations keeps them all"
 
 
 class Mistake(Exception):

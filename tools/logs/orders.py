@@ -5,7 +5,7 @@ import bisect
 import itertools
 
 from logs.log import MOST_BEFORE
-from logs.mistakes import Mistake, at_line, note
+from logs.mistakes import CIRCLE, Mistake, at_line, note
 
 
 class Ends:
@@ -97,7 +97,7 @@ class Orders:
                 ready += [other for place, other in waiting[me] if place <= done[me]]
                 waiting[me] = [one for one in waiting[me] if one[0] > done[me]]
         if len(self.order) < sum(map(len, self.processes)):
-            raise Mistake("times and barriers go round in a circle: no order of the operations keeps them all")
+            raise Mistake(CIRCLE)
 
     def take(self, me, done):
         """Takes the operations of a process one by one, and yields the process and the place for which the next one has to wait."""
