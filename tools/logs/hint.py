@@ -54,7 +54,7 @@ class Schedule:
     def offer(self, process):
         """Puts the next operation of a process among those that may come or that wait for ends, unless an order keeps it back."""
         place, operations = self.following[process], self.log.processes[process]
-        if place > len(operations) or self.lacking.get((process, place), 0):
+        if place > len(operations) or self.lacking and self.lacking.get((process, place), 0):
             return
         start = operations[place - 1].start
         if start is not None and self.ended < len(self.ends) and self.ends[self.ended][0] < start:
@@ -77,13 +77,11 @@ class Schedule:
             place = self.following[process]
             self.following[process] += 1
             yield self.log.processes[process][place - 1]
-            freed = [process]
-            for other in self.behind.get((process, place), ()):
+            for other in self.behind.get((process, place), ()) if self.behind else ():
                 self.lacking[other] -= 1
                 if other[0] != process and other[1] == self.following[other[0]] and not self.lacking[other]:
-                    freed.append(other[0])
-            for name in freed:
-                self.offer(name)
+                    self.offer(other[0])
+            self.offer(process)
             if self.ends:
                 self.pass_ends()
 

@@ -120,7 +120,7 @@ class Log:
         kind = type(cell)
         if kind is str:
             return self.values[cell]
-        return cells.value_key(cell) if cell is None or kind in (bool, list, dict) else self.values[str(cell)]
+        return cells.value_key(cell) if kind is not int and (cell is None or kind in (bool, list, dict)) else self.values[str(cell)]
 
     def take_barrier(self, process, barrier, place):
         passed = self.rounds[(barrier, process)]
@@ -145,8 +145,9 @@ class Log:
         return self.value_of(read), None if written is None else self.value_of(written)
 
     def times(self, line, start, end):
-        start = int(start) if type(start) is str and len(start) < 20 and start.isdecimal() else cells.time_of(line, "start", start)
-        end = int(end) if type(end) is str and len(end) < 20 and end.isdecimal() else cells.time_of(line, "end", end)
+        if not (type(start) is int and type(end) is int):
+            start = int(start) if type(start) is str and len(start) < 20 and start.isdecimal() else cells.time_of(line, "start", start)
+            end = int(end) if type(end) is str and len(end) < 20 and end.isdecimal() else cells.time_of(line, "end", end)
         if start is not None and end is not None and end < start:
             raise at_line(line, "it ends before it starts")
         if start is not None or end is not None:
@@ -169,18 +170,13 @@ class Log:
 
     def look_at_what_is_kept(self, orders, with_times):
         """Says if `vsc verify` refuses the trace: it drops reads that repeat the operation before them, but none that an order names or that has times."""
-        pairs = ((a, b) for ops in self.processes.values() for a, b in zip(ops, ops[1:]) if not (with_times and has_times(b)))
-        dropped = {(b.process, b.place) for a, b in pairs if b.written is None and self.is_repeat(a, b)}
+        pairs = ((a, b) for ops in self.processes.values() for a, b in zip(ops, ops[1:]) if b.written is None and b.location == a.location)
+        dropped = {(b.process, b.place) for a, b in pairs if b.read == (a.read if a.written is None else a.written) and not (with_times and has_times(b))}
         if dropped:
             dropped.difference_update(itertools.chain.from_iterable(orders))
         count = self.count()
         if count - len(dropped) > MOST_KEPT:
             note(f"{count} operations, {count - len(dropped)} beside reads that are dropped; `vsc verify` takes {MOST_KEPT}, and `vsc survey` all")
-
-    @staticmethod
-    def is_repeat(earlier, later):
-        """Whether a read repeats the operation before it."""
-        return later.location == earlier.location and later.read == (earlier.read if earlier.written is None else earlier.written)
 
     def tell_spellings(self):
         for spellings in (self.names, self.locations, self.values):

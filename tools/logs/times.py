@@ -13,7 +13,7 @@ class Times:
         found = {time for op in operations for time in (op.start, op.end) if time is not None}
         # The number of each time, if not all are numbers that a trace may have.
         self.of = None
-        if not all(is_plain(time) for time in found):
+        if not are_plain(found):
             self.of = {time: number for number, time in enumerate(sorted(found))}
             note(f"times are numbered by their order, from 0 to {len(found) - 1}, since not all are whole numbers from 0 to {LARGEST}")
 
@@ -27,5 +27,7 @@ class Times:
         return f" at {0 if op.start is None else self.number(op.start)} {LARGEST if op.end is None else self.number(op.end)}"
 
 
-def is_plain(time):
-    return 0 <= time <= LARGEST and time == int(time)
+def are_plain(times):
+    """Whether a trace may have all these times. Most logs have whole numbers alone."""
+    is_small = not times or 0 <= min(times) and max(times) <= LARGEST
+    return is_small and (set(map(type, times)) <= {int} or all(time == int(time) for time in times))
