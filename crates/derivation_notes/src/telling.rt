@@ -36,12 +36,8 @@ pub enum StepEnd {
 /// The words that the trace puts the first operation before the second by a line or by times, which the clause does not say.
 fn known_words(ops: &[KeptOp<'_>], first: usize, second: usize) -> &'static [u8] {
     match (ops.get(first), ops.get(second)) {
-        (Some(earlier), Some(later)) => {
-            if ends_before(earlier.op.span(), later.op.span()) {
-                b", by their times"
-            } else {
-                b", by a before line"
-            }
+        (Some(earlier), Some(later)) if ends_before(earlier.op.span(), later.op.span()) => {
+            b", by their times"
         }
         _ => b", by a before line",
     }
@@ -141,12 +137,15 @@ impl<'t> Teller<'t> {
             return Ok(());
         }
         match self.facts.reason_of(first, second) {
-            Some(OrderReason::BeforePair) => self.story.say(&[
-                Phrase::Name(first),
-                Phrase::Words(b" before "),
-                Phrase::Name(second),
-                Phrase::Words(known_words(self.story.ops(), first, second)),
-            ]),
+            Some(OrderReason::BeforePair) => {
+                let why = known_words(self.story.ops(), first, second);
+                self.story.say(&[
+                    Phrase::Name(first),
+                    Phrase::Words(b" before "),
+                    Phrase::Name(second),
+                    Phrase::Words(why),
+                ]);
+            }
             Some(OrderReason::Through(_)) => {
                 let chain = chain_between(self.alloc, &self.facts, first, second)?;
                 let short = shortened(self.alloc, self.story.ops(), chain.as_slice())?;
@@ -243,11 +242,12 @@ impl<'t> Teller<'t> {
                     return Ok(());
                 };
                 self.say_order(second, first)?;
+                let why = words_of(reason, self.story.ops(), first, second);
                 self.story.say(&[
                     Phrase::Name(first),
                     Phrase::Words(b" before "),
                     Phrase::Name(second),
-                    Phrase::Words(words_of(reason, self.story.ops(), first, second)),
+                    Phrase::Words(why),
                     Phrase::Words(b": contradiction"),
                 ]);
                 Ok(())
