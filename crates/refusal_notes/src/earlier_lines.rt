@@ -4,25 +4,22 @@ use crate::text_kinds::first_kept_line;
 use note_text::word_at;
 use text_lines::lines::cut_line;
 use text_lines::words::is_word;
-use trace_semantics::limits::Limits;
+use trace_text::version::Version;
 
 /// The word of the header that says the version.
 fn version_word(bytes: &[u8]) -> &[u8] {
     word_at(first_kept_line(bytes), 1)
 }
 
-/// Returns whether the header says a version that has lines of known orders and sources.
-pub(crate) fn has_known_orders(bytes: &[u8]) -> bool {
-    let version = version_word(bytes);
-    is_word(version, "2") || is_word(version, "3")
-}
-
-/// The limits of the version that the header says.
-pub(crate) fn limits_of_header(bytes: &[u8]) -> Limits {
-    if is_word(version_word(bytes), "3") {
-        Limits::Large
+/// The version that the header says, or else the first one.
+pub(crate) fn version_of_header(bytes: &[u8]) -> Version {
+    let word = version_word(bytes);
+    if is_word(word, "3") {
+        Version::Three
+    } else if is_word(word, "2") {
+        Version::Two
     } else {
-        Limits::Small
+        Version::One
     }
 }
 

@@ -1,6 +1,6 @@
 //! Why a trace was refused.
 
-use crate::earlier_lines::{first_line_with, has_known_orders, limits_of_header};
+use crate::earlier_lines::{first_line_with, version_of_header};
 use crate::meanings::Explained;
 use crate::name_notes::note_missing;
 use crate::names::{has_byte, is_word_in_any_case};
@@ -48,10 +48,13 @@ fn marked_word(cause: TraceCause, refused: &RefusedLine<'_>) -> Option<usize> {
     let bad = match cause {
         TraceCause::NotAscii => return high_place(refused.line),
         TraceCause::UnknownLine => {
-            return Some(hint_of_line(refused.line, has_known_orders(refused.bytes)).word);
+            return Some(hint_of_line(refused.line, version_of_header(refused.bytes)).word);
         }
         TraceCause::BadName => bad_name(refused.line),
-        TraceCause::BadNumber => bad_number(refused.line, limits_of_header(refused.bytes)),
+        TraceCause::BadNumber => bad_number(
+            refused.line,
+            version_of_header(refused.bytes).limits(),
+        ),
         _ => return Some(0),
     };
     match bad {
@@ -202,7 +205,7 @@ fn note_cause(
             return note_bad_word(alloc, notes, cause, refused.line, bad_name(refused.line));
         }
         TraceCause::BadNumber => {
-            let bad = bad_number(refused.line, limits_of_header(refused.bytes));
+            let bad = bad_number(refused.line, version_of_header(refused.bytes).limits());
             return note_bad_word(alloc, notes, cause, refused.line, bad);
         }
         _ => notes.note(&[cause.meaning().as_bytes()]),
@@ -215,7 +218,7 @@ fn note_cause(
             note_if(notes, says_of_log(refused.bytes))
         }
         TraceCause::UnknownLine => {
-            let hint = hint_of_line(refused.line, has_known_orders(refused.bytes));
+            let hint = hint_of_line(refused.line, version_of_header(refused.bytes));
             notes.note(&[hint.says.as_bytes()])
         }
         _ => note_related(alloc, notes, cause, refused),

@@ -1,8 +1,9 @@
 //! What was probably meant by a line that has no form of a trace's.
 
 use crate::names::{has_byte, is_word_in_any_case};
-use note_text::word_at;
+use note_text::{count_words, word_at};
 use text_lines::words::is_word;
+use trace_text::version::Version;
 
 /// A word of the line, by its place, and what is said of it.
 #[derive(Clone, Copy)]
@@ -12,7 +13,7 @@ pub(crate) struct Hint {
 }
 
 /// No line of a trace has as many words.
-const MAX_WORDS: usize = 9;
+const MAX_WORDS: usize = 11;
 
 /// The place of the first word after the key that begins a comment.
 fn comment_place(line: &[u8]) -> Option<usize> {
@@ -35,10 +36,38 @@ fn from_place(line: &[u8]) -> Option<usize> {
     None
 }
 
+/// The place of the word `at`, unless it names a process behind `from`.
+fn at_place(line: &[u8]) -> Option<usize> {
+    for place in 3..MAX_WORDS {
+        if is_word(word_at(line, place), "at") && !is_word(word_at(line, place - 1), "from") {
+            return Some(place);
+        }
+    }
+    None
+}
+
+/// Of the words from `at` on, if the version has no times or there are not two of them.
+fn hint_of_times(line: &[u8], version: Version) -> Option<Hint> {
+    let place = at_place(line)?;
+    if !version.has_times() {
+        return Some(Hint {
+            word: place,
+            says: "`at` needs the header `vsc 3`",
+        });
+    }
+    if count_words(line) == place.saturating_add(3) {
+        return None;
+    }
+    Some(Hint {
+        word: place,
+        says: "after `at` stand two times, the start and the end, and no word more, as `W x 1 at 5 6`",
+    })
+}
+
 /// Of a line with the word `from` at this place.
-fn hint_of_from(line: &[u8], has_known_orders: bool, place: usize) -> Hint {
+fn hint_of_from(line: &[u8], version: Version, place: usize) -> Hint {
     let key = word_at(line, 0);
-    if !has_known_orders {
+    if !version.has_version_2_lines() {
         return Hint {
             word: place,
             says: "`from` needs the header `vsc 2` or `vsc 3`",
@@ -63,9 +92,12 @@ fn hint_of_from(line: &[u8], has_known_orders: bool, place: usize) -> Hint {
 }
 
 /// Of a line whose key is R, W or U.
-fn hint_of_operation(line: &[u8], has_known_orders: bool) -> Hint {
+fn hint_of_operation(line: &[u8], version: Version) -> Hint {
+    if let Some(hint) = hint_of_times(line, version) {
+        return hint;
+    }
     if let Some(place) = from_place(line) {
-        return hint_of_from(line, has_known_orders, place);
+        return hint_of_from(line, version, place);
     }
     if is_word(word_at(line, 0), "U") {
         return Hint {
@@ -80,8 +112,8 @@ fn hint_of_operation(line: &[u8], has_known_orders: bool) -> Hint {
 }
 
 /// Of a line whose key is `before`.
-fn hint_of_before(has_known_orders: bool) -> Hint {
-    if has_known_orders {
+fn hint_of_before(version: Version) -> Hint {
+    if version.has_version_2_lines() {
         return Hint {
             word: 0,
             says: "`before` takes two operations, each by its process and its place as two words, as `before P 1 Q 1`",
@@ -94,12 +126,12 @@ fn hint_of_before(has_known_orders: bool) -> Hint {
 }
 
 /// Of a line whose key a trace has, if it is one.
-fn hint_of_key(line: &[u8], has_known_orders: bool) -> Option<Hint> {
+fn hint_of_key(line: &[u8], version: Version) -> Option<Hint> {
     let key = word_at(line, 0);
     let says = if is_word(key, "R") || is_word(key, "W") || is_word(key, "U") {
-        return Some(hint_of_operation(line, has_known_orders));
+        return Some(hint_of_operation(line, version));
     } else if is_word(key, "before") {
-        return Some(hint_of_before(has_known_orders));
+        return Some(hint_of_before(version));
     } else if is_word(key, "init") || is_word(key, "final") {
         "`init` and `final` take one location and one value; each location has a line of its own"
     } else if is_word(key, "proc") {
@@ -160,14 +192,14 @@ fn says_of_other_key(key: &[u8]) -> &'static str {
 }
 
 /// Gives what was probably meant by the line.
-pub(crate) fn hint_of_line(line: &[u8], has_known_orders: bool) -> Hint {
+pub(crate) fn hint_of_line(line: &[u8], version: Version) -> Hint {
     if let Some(word) = comment_place(line) {
         return Hint {
             word,
             says: "a comment stands on a line of its own",
         };
     }
-    match hint_of_key(line, has_known_orders) {
+    match hint_of_key(line, version) {
         Some(hint) => hint,
         None => Hint {
             word: 0,

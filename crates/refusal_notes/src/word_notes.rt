@@ -1,7 +1,7 @@
 //! Which word of a line is no name or no number.
 
 use crate::names::{is_value, place_of};
-use note_text::{GrowingText, Notes, add_quoted, word_at};
+use note_text::{GrowingText, Notes, add_quoted, count_words, word_at};
 use std::alloc::Global;
 use text_lines::words::is_word;
 use trace_semantics::limits::Limits;
@@ -12,6 +12,7 @@ use trace_semantics::name::is_name_word;
 pub(crate) enum WordFault {
     Name,
     Value,
+    Time,
     Place(Limits),
 }
 
@@ -30,6 +31,9 @@ fn says_of(fault: WordFault) -> &'static str {
         WordFault::Value => {
             " is no value: decimal, 0 to 18446744073709551615, without a leading zero"
         }
+        WordFault::Time => {
+            " is no time: decimal, 0 to 18446744073709551615, without a leading zero"
+        }
         WordFault::Place(Limits::Small) => {
             " is no place of an operation: decimal, 1 to 65535, without a leading zero"
         }
@@ -47,15 +51,23 @@ pub(crate) fn note_word(alloc: Global, notes: &mut Notes, word: &[u8], fault: Wo
     notes.note_text(&[], &text);
 }
 
+/// The number of words of the line without its times.
+fn count_without_times(line: &[u8]) -> usize {
+    let count = count_words(line);
+    if count > 5 && is_word(word_at(line, count - 3), "at") {
+        count - 3
+    } else {
+        count
+    }
+}
+
 /// The place of the word that names the process of the operation from which the line's value comes.
 pub(crate) fn source_place(line: &[u8]) -> Option<usize> {
     let key = word_at(line, 0);
-    if is_word(key, "R") && is_word(word_at(line, 3), "from") && !word_at(line, 5).is_empty() {
+    let count = count_without_times(line);
+    if is_word(key, "R") && is_word(word_at(line, 3), "from") && count > 5 {
         Some(4)
-    } else if is_word(key, "U")
-        && is_word(word_at(line, 4), "from")
-        && !word_at(line, 6).is_empty()
-    {
+    } else if is_word(key, "U") && is_word(word_at(line, 4), "from") && count > 6 {
         Some(5)
     } else {
         None
@@ -132,6 +144,19 @@ fn bad_value_of_line(line: &[u8]) -> Option<BadWord> {
     }
 }
 
+/// The first of the line's times that is none.
+fn bad_time(line: &[u8]) -> Option<BadWord> {
+    for word in count_without_times(line).saturating_add(1)..count_words(line) {
+        if !is_value(word_at(line, word)) {
+            return Some(BadWord {
+                word,
+                fault: WordFault::Time,
+            });
+        }
+    }
+    None
+}
+
 /// The first word in the place of a number that is none, or is a place beyond these limits.
 pub(crate) fn bad_number(line: &[u8], limits: Limits) -> Option<BadWord> {
     if is_before(line) {
@@ -140,8 +165,11 @@ pub(crate) fn bad_number(line: &[u8], limits: Limits) -> Option<BadWord> {
             None => bad_place(line, limits, 4),
         };
     }
-    match bad_value_of_line(line) {
+    if let Some(bad) = bad_value_of_line(line) {
+        return Some(bad);
+    }
+    match bad_source_place(line, limits) {
         Some(bad) => Some(bad),
-        None => bad_source_place(line, limits),
+        None => bad_time(line),
     }
 }

@@ -22,7 +22,7 @@ struct Case {
 }
 
 /// Faults of texts that are small enough to find them by eye.
-static CASES: [Case; 22] = [
+static CASES: [Case; 25] = [
     Case {
         fault: Fault::Trace(TraceCause::BadName, 2),
         first: b"vsc 1\nproc thread-1\n",
@@ -82,6 +82,32 @@ static CASES: [Case; 22] = [
             note:            ^\n\
             note: a trace has no line of this form\n\
             note: `from` needs the header `vsc 2` or `vsc 3`\n",
+    },
+    Case {
+        fault: Fault::Trace(TraceCause::UnknownLine, 3),
+        first: b"vsc 2\nproc P\nR x 1 from at 3 at 5 6\n",
+        second: b"",
+        notes: "note: t:3: R x 1 from at 3 at 5 6\n\
+            note:                      ^\n\
+            note: a trace has no line of this form\n\
+            note: `at` needs the header `vsc 3`\n",
+    },
+    Case {
+        fault: Fault::Trace(TraceCause::UnknownLine, 3),
+        first: b"vsc 3\nproc P\nW x 1 at 5\n",
+        second: b"",
+        notes: "note: t:3: W x 1 at 5\n\
+            note:            ^\n\
+            note: a trace has no line of this form\n\
+            note: after `at` stand two times, the start and the end, and no word more, as `W x 1 at 5 6`\n",
+    },
+    Case {
+        fault: Fault::Trace(TraceCause::BadNumber, 3),
+        first: b"vsc 3\nproc P\nR x 1 from init at 5 0x6\n",
+        second: b"",
+        notes: "note: t:3: R x 1 from init at 5 0x6\n\
+            note:                           ^\n\
+            note: \"0x6\" is no time: decimal, 0 to 18446744073709551615, without a leading zero\n",
     },
     Case {
         fault: Fault::Trace(TraceCause::UnknownLine, 3),
@@ -295,7 +321,7 @@ fn lists_all(alloc: Global) -> bool {
         .iter()
         .filter(|byte| **byte == b'\n')
         .count();
-    notes.as_slice().starts_with(first) && count == 78
+    notes.as_slice().starts_with(first) && count == 79
 }
 
 #[test]
