@@ -28,6 +28,8 @@ pub struct WaySearch {
     far: Vec<u32>,
     /// The pairs of the way, the last first.
     way: Vec<u32>,
+    /// Whether a way may lead over any operation, and not only over those that stand before its end by the rows.
+    leads_anywhere: bool,
     steps: u64,
 }
 
@@ -42,6 +44,7 @@ impl Drop for WaySearch {
             near: _near,
             far: _far,
             way: _way,
+            leads_anywhere: _,
             steps: _,
         } = self;
     }
@@ -58,6 +61,7 @@ impl WaySearch {
             near: Vec::new(alloc),
             far: Vec::new(alloc),
             way: Vec::new(alloc),
+            leads_anywhere: false,
             steps: 0,
         })
     }
@@ -85,12 +89,37 @@ impl WaySearch {
     }
 
     /// Finds a way. Pairs that are marked cost nothing, and neither do those of no decision if these need no reason.
+    ///
+    /// While a walk looks only at what is in reach, a row of what stands after an operation may lack what the other rows have. A question
+    /// without an answer would leave the conflict with fewer reasons than it has, so the way is then looked for without these rows.
     pub fn find(
         &mut self,
         order: &Propagation<'_>,
         question: WayQuestion,
         is_marked: &[bool],
         asks_all: bool,
+    ) -> Result<(), AllocError> {
+        self.leads_anywhere = false;
+        self.look_for(order, question, (is_marked, asks_all))?;
+        if !self.is_met(question.second) {
+            self.leads_anywhere = true;
+            self.look_for(order, question, (is_marked, asks_all))?;
+        }
+        self.trace_back(order, question)
+    }
+
+    /// Returns whether the search at hand has met the operation.
+    #[inline(always)]
+    fn is_met(&self, number: u32) -> bool {
+        at(self.turns.as_slice(), number, 0) == self.turn
+    }
+
+    /// Goes on from the first operation of the question until its second is met, or nothing is left.
+    fn look_for(
+        &mut self,
+        order: &Propagation<'_>,
+        question: WayQuestion,
+        costs: (&[bool], bool),
     ) -> Result<(), AllocError> {
         self.turn = self.turn.wrapping_add(1);
         self.near.clear();
@@ -111,10 +140,10 @@ impl WaySearch {
             }
             if at(self.lengths.as_slice(), number, 0) == length {
                 self.go_on(order, question, number, length)?;
-                self.follow_pairs(order, question, (number, length), (is_marked, asks_all))?;
+                self.follow_pairs(order, question, (number, length), costs)?;
             }
         }
-        self.trace_back(order, question)
+        Ok(())
     }
 
     /// Makes the operations of the next length those at hand.
@@ -137,8 +166,7 @@ impl WaySearch {
         arrival: u32,
         is_near: bool,
     ) -> Result<(), AllocError> {
-        let is_met = at(self.turns.as_slice(), number, 0) == self.turn;
-        if is_met && at(self.lengths.as_slice(), number, 0) <= length {
+        if self.is_met(number) && at(self.lengths.as_slice(), number, 0) <= length {
             return Ok(());
         }
         put(self.turns.as_mut_slice(), number, self.turn);
@@ -154,8 +182,10 @@ impl WaySearch {
 
     /// Returns whether a way may lead over this operation.
     #[inline(always)]
-    fn leads_on(order: &Propagation<'_>, question: WayQuestion, number: u32) -> bool {
-        number == question.second || order.stands_before(number, question.second)
+    fn leads_on(&self, order: &Propagation<'_>, question: WayQuestion, number: u32) -> bool {
+        number == question.second
+            || self.leads_anywhere
+            || order.stands_before(number, question.second)
     }
 
     /// Goes on to the next operation of the process.
@@ -170,7 +200,7 @@ impl WaySearch {
         let operation = order.log().operation(number);
         let next = number.wrapping_add(1);
         if operation.place < order.log().length(operation.process)
-            && WaySearch::leads_on(order, question, next)
+            && self.leads_on(order, question, next)
         {
             self.meet(next, length, NOBODY, true)?;
         }
@@ -192,9 +222,7 @@ impl WaySearch {
             }
             let pair = order.pairs().pair(number);
             self.steps = self.steps.wrapping_add(4);
-            if pair.time.is_before(question.time)
-                && WaySearch::leads_on(order, question, pair.second)
-            {
+            if pair.time.is_before(question.time) && self.leads_on(order, question, pair.second) {
                 let is_free = at(costs.0, number, false) || (pair.level == 0 && !costs.1);
                 let length = from.1.wrapping_add(!is_free as u32);
                 self.meet(pair.second, length, number, is_free)?;
@@ -213,7 +241,7 @@ impl WaySearch {
         self.way.clear();
         let mut number = question.second;
         for _ in 0..order.log().count() {
-            if number == question.first || at(self.turns.as_slice(), number, 0) != self.turn {
+            if number == question.first || !self.is_met(number) {
                 break;
             }
             let arrival = at(self.arrivals.as_slice(), number, NOBODY);
