@@ -1,10 +1,12 @@
-//! Searches a trace for a schedule, by the search crates alone.
+//! Searches a trace for a schedule, and makes the certificate of a refutation, by the search crates alone.
 #![allow(warnings)]
 
 mod beam_search;
 mod closed_rows;
 mod conflict_analysis;
+mod local_reads;
 mod numbered_log;
+mod order_certificate;
 mod order_propagation;
 mod order_sets;
 mod placing_walk;
@@ -13,7 +15,11 @@ mod schedule_search;
 mod shim;
 mod source_counting;
 
+use local_reads::ReducedLog;
 use numbered_log::{Budget, NumberedLog, NumberedOrigin, Operation};
+use order_certificate::{
+    certificate_of_conflict, certificate_of_learning, certificate_of_takers, LogNames, NamedPlace, OrderCertificate,
+};
 use order_propagation::Propagation;
 use schedule_search::{ScheduleSearch, SearchEnding};
 use shim::Global;
@@ -28,6 +34,13 @@ fn looks_of_step(log: &NumberedLog) -> u64 {
 }
 
 const STEPS: u64 = 1_000_000_000;
+
+/// A trace as a log, with its names by number.
+struct Trace<'a> {
+    log: NumberedLog,
+    processes: Vec<&'a str>,
+    locations: Vec<&'a str>,
+}
 
 fn number(word: &str) -> u64 {
     word.parse().expect("a number")
@@ -50,84 +63,140 @@ fn operation(words: &[&str], location: u32) -> Operation {
     }
 }
 
-/// The numbers of the locations on which operations work, or that have final values, in the order in which they come.
-fn locations_of(text: &str) -> HashMap<&str, u32> {
-    let mut locations = HashMap::new();
+/// The locations on which operations work, or that have final values, in the order in which they come.
+fn locations_of(text: &str) -> Vec<&str> {
+    let (mut locations, mut numbers) = (Vec::new(), HashMap::new());
     for line in text.lines() {
         let words: Vec<&str> = line.split_whitespace().collect();
-        if words.len() > 1 && ["R", "W", "U", "final"].contains(&words[0]) {
-            let next = locations.len() as u32;
-            locations.entry(words[1]).or_insert(next);
+        if words.len() > 1 && ["R", "W", "U", "final"].contains(&words[0]) && numbers.insert(words[1], ()).is_none() {
+            locations.push(words[1]);
         }
     }
     locations
 }
 
-/// The log of the trace, and the names of its operations by number.
-fn log_of(text: &str) -> (NumberedLog, Vec<String>) {
-    let locations = locations_of(text);
-    let mut log = NumberedLog::new(Global, locations.len() as u32).expect("memory");
-    let (mut names, mut process, mut place) = (Vec::new(), None, 0);
-    for line in text.lines() {
-        let words: Vec<&str> = line.split_whitespace().collect();
-        match words.first() {
-            Some(&"init") => {
-                if let Some(&location) = locations.get(words[1]) {
-                    log.set_initial(location, Some(number(words[2])));
+impl<'a> Trace<'a> {
+    fn of(text: &'a str) -> Trace<'a> {
+        let locations = locations_of(text);
+        let numbers: HashMap<&str, u32> = locations.iter().copied().zip(0..).collect();
+        let mut log = NumberedLog::new(Global, locations.len() as u32).expect("memory");
+        let mut processes = Vec::new();
+        for line in text.lines() {
+            let words: Vec<&str> = line.split_whitespace().collect();
+            match words.first() {
+                Some(&"init") => {
+                    if let Some(&location) = numbers.get(words[1]) {
+                        log.set_initial(location, Some(number(words[2])));
+                    }
                 }
-            }
-            Some(&"final") => log.set_last(locations[words[1]], Some(number(words[2]))),
-            Some(&"proc") => {
-                if process.is_some() {
-                    log.end_process().expect("memory");
+                Some(&"final") => log.set_last(numbers[words[1]], Some(number(words[2]))),
+                Some(&"proc") => {
+                    if !processes.is_empty() {
+                        log.end_process().expect("memory");
+                    }
+                    processes.push(words[1]);
                 }
-                (process, place) = (Some(words[1]), 0);
+                Some(&"R" | &"W" | &"U") => log.add_operation(operation(&words, numbers[words[1]])).expect("memory"),
+                _ => {}
             }
-            Some(&"R" | &"W" | &"U") => {
-                log.add_operation(operation(&words, locations[words[1]])).expect("memory");
-                place += 1;
-                names.push(format!("{}.{place}", process.expect("a process")));
-            }
-            _ => {}
         }
+        if !processes.is_empty() {
+            log.end_process().expect("memory");
+        }
+        Trace { log, processes, locations }
     }
-    if process.is_some() {
-        log.end_process().expect("memory");
-    }
-    (log, names)
-}
 
-/// The operations that the file names, by number.
-fn hint_of(names: &[String], file: Option<&String>) -> shim::Vec<u32> {
-    let mut hint = shim::Vec::new(Global);
-    let numbers: HashMap<&str, u32> = (0..).zip(names).map(|(at, name)| (name.as_str(), at)).collect();
-    if let Some(file) = file {
+    fn name(&self, number: u32) -> String {
+        let operation = self.log.operation(number);
+        format!("{}.{}", self.processes[operation.process as usize], operation.place)
+    }
+
+    /// The operations that the file names, by number.
+    fn hint(&self, file: Option<&String>) -> shim::Vec<u32> {
+        let mut hint = shim::Vec::new(Global);
+        let Some(file) = file.filter(|word| *word != "-") else {
+            return hint;
+        };
+        let numbers: HashMap<String, u32> = (0..self.log.count()).map(|at| (self.name(at), at)).collect();
         for line in fs::read_to_string(file).expect("a hint").lines() {
             if let Some(&at) = numbers.get(line.trim()) {
                 hint.push(at).expect("memory");
             }
         }
+        hint
     }
-    hint
+
+    /// The text of the certificate, of the log that was made smaller.
+    fn text(&self, reduced: &ReducedLog, certificate: &OrderCertificate) -> shim::Vec<u8> {
+        let kept: Vec<u32> = (0..reduced.log.count()).collect();
+        let mut names = LogNames {
+            processes: shim::Vec::new(Global),
+            locations: shim::Vec::new(Global),
+            operations: shim::Vec::new(Global),
+        };
+        for name in &self.processes {
+            names.processes.push(name.as_bytes()).expect("memory");
+        }
+        for name in &self.locations {
+            names.locations.push(name.as_bytes()).expect("memory");
+        }
+        for number in reduced.in_whole(Global, &kept).expect("memory").as_slice() {
+            let Operation { process, place, .. } = self.log.operation(*number);
+            names.operations.push(NamedPlace { process, place }).expect("memory");
+        }
+        certificate.text(Global, &names).expect("memory")
+    }
+}
+
+/// The certificate of what the search has refuted, as in `survey`.
+fn certificate_of(reduced: &ReducedLog, order: &mut Propagation, search: &ScheduleSearch) -> Option<OrderCertificate> {
+    if let Some(learned) = search.learned() {
+        let mut budget = order.budget();
+        let certificate = certificate_of_learning(Global, &reduced.log, learned, search.core(), &mut budget);
+        order.set_budget(budget);
+        return certificate.expect("memory");
+    }
+    match search.takers() {
+        Some(takers) => certificate_of_takers(Global, order, takers).expect("memory"),
+        None => certificate_of_conflict(Global, order).expect("memory"),
+    }
 }
 
 fn main() {
     let words: Vec<String> = env::args().collect();
     let text = fs::read_to_string(&words[1]).expect("a trace");
     let steps = words.get(2).map_or(STEPS, |word| number(word));
-    let (log, names) = log_of(&text);
-    let hint = hint_of(&names, words.get(3));
-    let mut budget = Budget::new(steps * looks_of_step(&log));
-    let _kept = budget.share(budget.left() / 4);
+    let trace = Trace::of(&text);
+    let hint = trace.hint(words.get(3));
+    let looks = looks_of_step(&trace.log);
+    let mut budget = Budget::new(steps * looks);
+    let kept = budget.share(budget.left() / 4);
     let begun = Instant::now();
-    let mut order = Propagation::new(Global, &log, budget).expect("memory");
+    let reduced = ReducedLog::of(Global, &trace.log).expect("memory");
+    let hint = reduced.kept_of(Global, &trace.log, hint.as_slice()).expect("memory");
+    let mut order = Propagation::new(Global, &reduced.log, budget).expect("memory");
     let mut search = ScheduleSearch::new(Global);
-    let ending = match search.run(Global, &mut order, hint.as_slice()).expect("memory") {
+    let ending = search.run(Global, &mut order, hint.as_slice()).expect("memory");
+    let word = match ending {
         SearchEnding::Scheduled => "scheduled",
         SearchEnding::Refuted => "refuted",
         SearchEnding::Unknown => "unknown",
     };
     let seconds = begun.elapsed().as_secs_f64();
     let core = search.core().map_or(String::new(), |core| format!(", a core of {}", core.len()));
-    println!("{ending}{core}, {} of {} placed, {seconds:.2} s", search.most_placed(), log.count());
+    println!("{word}{core}, {} of {} placed, {seconds:.2} s", search.most_placed(), reduced.log.count());
+    if ending == SearchEnding::Refuted {
+        let mut budget = order.budget();
+        budget.give_back(kept);
+        order.set_budget(budget);
+        let before = budget.left() / looks;
+        let certificate = certificate_of(&reduced, &mut order, &search);
+        let said = certificate.map(|certificate| trace.text(&reduced, &certificate));
+        let bytes = said.as_ref().map_or("no certificate".to_string(), |text| format!("a certificate of {} bytes", text.len()));
+        let left = order.budget().left() / looks;
+        println!("{bytes}, {before} steps left before and {left} after, {:.2} s", begun.elapsed().as_secs_f64() - seconds);
+        if let (Some(text), Some(file)) = (said, words.get(4)) {
+            fs::write(file, text.as_slice()).expect("a file");
+        }
+    }
 }

@@ -1,5 +1,7 @@
 //! What the search crates take of Rattle's standard library, over Rust's own.
 
+use std::collections;
+use std::hash::Hash;
 use std::ops::{Index, IndexMut};
 use std::vec;
 
@@ -93,4 +95,39 @@ impl<T> IndexMut<usize> for Vec<T> {
 
 pub fn vec_of<T: Clone>(entry: T, count: usize) -> Result<Vec<T>, AllocError> {
     Ok(Vec(vec![entry; count]))
+}
+
+/// A map whose calls say that memory may run out.
+pub struct HashMap<K, V>(collections::HashMap<K, V>);
+
+impl<K: Eq + Hash, V> HashMap<K, V> {
+    pub fn new(_alloc: Global) -> HashMap<K, V> {
+        HashMap(collections::HashMap::new())
+    }
+
+    pub fn insert(&mut self, key: K, value: V) -> Result<Option<V>, AllocError> {
+        Ok(self.0.insert(key, value))
+    }
+
+    pub fn get(&self, key: &K) -> Option<&V> {
+        self.0.get(key)
+    }
+
+    pub fn len(&self) -> usize {
+        self.0.len()
+    }
+}
+
+/// The digits of a number, as `itoa` writes them.
+pub struct Buffer(String);
+
+impl Buffer {
+    pub fn new() -> Buffer {
+        Buffer(String::new())
+    }
+
+    pub fn format(&mut self, number: u32) -> &str {
+        self.0 = number.to_string();
+        &self.0
+    }
 }
