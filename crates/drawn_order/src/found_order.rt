@@ -389,7 +389,7 @@ impl FoundOrder {
         found.add_ends(items);
         found.add_program(alloc, items)?;
         found.add_known(alloc, items, part)?;
-        // The known order puts no box of a circle nearest to another: then the lines and the times themselves show it. Where the
+        // The known order puts no box of a circle nearest to another: then the lines and the times themselves show it. If the
         // circle goes through operations that are not drawn, two boxes of it do.
         found.add_before(alloc, items, part.trace)?;
         found.add_timed(alloc, items, part.trace)?;
