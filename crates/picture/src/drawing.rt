@@ -166,7 +166,7 @@ impl Content<'_, '_> {
     pub fn draw(&self, alloc: Global) -> Result<Vec<u8>, AllocError> {
         let is_schedule = self.subject.is_in_order();
         let placement = Placement::of(alloc, self.items, self.trace, self.names, is_schedule)?;
-        let entries = LegendEntries::of(self.items, self.found, is_schedule);
+        let entries = LegendEntries::of(self.trace, self.items, self.found, is_schedule);
         let reasons = ReasonLines::of(alloc, self.items, self.found, self.names)?;
         let legend = placement.bottom().saturating_add(20);
         let words = legend.saturating_add(entries.count().saturating_mul(LEGEND_STEP));

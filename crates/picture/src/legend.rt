@@ -4,6 +4,7 @@ use crate::arrows::{ArrowStyle, EXCLUDED, begin_path, is_shown, skips_between};
 use crate::placement::MARGIN;
 use crate::svg_text::SvgText;
 use drawn_order::{ArrowKind, FoundOrder, PictureItem};
+use trace_semantics::trace::Trace;
 
 /// The height of a line of the legend.
 pub(crate) const LEGEND_STEP: u64 = 22;
@@ -22,6 +23,8 @@ pub(crate) struct LegendEntries {
     shortage: bool,
     beside: bool,
     is_schedule: bool,
+    has_lines: bool,
+    has_times: bool,
 }
 
 impl LegendEntries {
@@ -39,6 +42,8 @@ impl LegendEntries {
             shortage: false,
             beside: false,
             is_schedule,
+            has_lines: false,
+            has_times: false,
         }
     }
 
@@ -69,8 +74,15 @@ impl LegendEntries {
     }
 
     /// Gives what occurs in the picture.
-    pub fn of(items: &[PictureItem<'_>], found: &FoundOrder, is_schedule: bool) -> LegendEntries {
+    pub fn of(
+        trace: &Trace,
+        items: &[PictureItem<'_>],
+        found: &FoundOrder,
+        is_schedule: bool,
+    ) -> LegendEntries {
         let mut entries = LegendEntries::none(is_schedule);
+        entries.has_lines = !trace.before().is_empty();
+        entries.has_times = has_times(trace);
         entries.note_arrows(items, found);
         for item in items {
             entries.beside = entries.beside || item.is_beside();
@@ -102,6 +114,18 @@ impl LegendEntries {
         }
         count
     }
+}
+
+/// Returns whether an operation of the trace has times.
+fn has_times(trace: &Trace) -> bool {
+    for process in trace.processes() {
+        for op in process.operations.as_slice() {
+            if op.span().is_some() {
+                return true;
+            }
+        }
+    }
+    false
 }
 
 /// The lines of a legend as they are drawn.
@@ -149,6 +173,17 @@ impl LegendLine {
     }
 }
 
+/// The words for arrows of the known order, by what the trace says of it.
+fn known_words(entries: &LegendEntries) -> &'static [u8] {
+    if !entries.has_times {
+        b"known order: what before lines say of the operations that are drawn"
+    } else if entries.has_lines {
+        b"known order: what before lines and times say of the operations that are drawn"
+    } else {
+        b"known order: what times say of the operations that are drawn"
+    }
+}
+
 /// Draws what of the legend is of arrows.
 fn draw_plain(svg: &mut SvgText, line: &mut LegendLine, entries: &LegendEntries) {
     if entries.program {
@@ -167,9 +202,7 @@ fn draw_plain(svg: &mut SvgText, line: &mut LegendLine, entries: &LegendEntries)
         line.arrow(svg, b"source", b"blue", words);
     }
     if entries.before {
-        let words =
-            b"known order: what before lines and times say of the operations that are drawn";
-        line.arrow(svg, b"before", b"violet", words);
+        line.arrow(svg, b"before", b"violet", known_words(entries));
     }
     if entries.derived {
         let words = b"has to come first, by the sentence of this number below";
