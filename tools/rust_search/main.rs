@@ -192,7 +192,12 @@ fn main() {
         let before = budget.left() / looks;
         let certificate = certificate_of(&reduced, &mut order, &search);
         let said = certificate.map(|certificate| trace.text(&reduced, &certificate));
-        let bytes = said.as_ref().map_or("no certificate".to_string(), |text| format!("a certificate of {} bytes", text.len()));
+        let is_counted = search.learned().is_none() && search.takers().is_none() && !order.has_conflict();
+        let bytes = match &said {
+            Some(text) => format!("a certificate of {} bytes", text.len()),
+            None if is_counted => "refuted by counting alone, of which `survey` makes the certificate beforehand".to_string(),
+            None => "no certificate".to_string(),
+        };
         let left = order.budget().left() / looks;
         println!("{bytes}, {before} steps left before and {left} after, {:.2} s", begun.elapsed().as_secs_f64() - seconds);
         if let (Some(text), Some(file)) = (said, words.get(4)) {
