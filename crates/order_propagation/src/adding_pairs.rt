@@ -1,6 +1,6 @@
 //! A new pair and the rows that it changes.
 
-use crate::conflict::Stop;
+use crate::conflict::{Conflict, Stop};
 use crate::propagation::Propagation;
 use closed_rows::{PairReason, RowEntry};
 use std::alloc::AllocError;
@@ -14,9 +14,12 @@ impl<'a> Propagation<'a> {
         if self.stands_before(first, second) || self.budget.is_spent() {
             return Ok(());
         }
-        self.store(first, second, reason)?;
         self.catch_up(first)?;
         self.catch_up(second)?;
+        if self.is_reaching() && self.closes_cycle(first, second) {
+            return self.stop_at_far_cycle(first, second, reason);
+        }
+        self.store(first, second, reason)?;
         self.rows.begin_pair(self.log, first, second)?;
         for number in 0..self.rows.ceilings() {
             let bound = self.rows.ceiling(number);
@@ -31,6 +34,43 @@ impl<'a> Propagation<'a> {
             self.budget.use_up();
         }
         Ok(())
+    }
+
+    /// Keeps that the pair closes a cycle. A decision has no other reason, so it is stored as a pair of the cycle.
+    fn stop_at_far_cycle(
+        &mut self,
+        first: u32,
+        second: u32,
+        reason: PairReason,
+    ) -> Result<(), Stop> {
+        if reason == PairReason::Decided {
+            self.store(first, second, reason)?;
+            self.conflict = Conflict::CyclicPairs;
+            return Err(Stop::Conflict);
+        }
+        self.stop_at_cycle(first, second, reason)
+    }
+
+    /// Returns whether the pair closes a cycle by the rows: some operation stands after the second one, or is it, and stands before the first one,
+    /// or is it. While a walk looks only at what is in reach, the rows may know that of others than these two. In rows of a cycle an operation would
+    /// stand before itself, and what follows of that would have no reason.
+    fn closes_cycle(&self, first: u32, second: u32) -> bool {
+        let earlier = self.log.operation(first);
+        let later = self.log.operation(second);
+        for process in 0..self.rows.width() {
+            let mut last = self.rows.before(first, process);
+            if process == earlier.process {
+                last = earlier.place;
+            }
+            let mut next = self.rows.after(second, process);
+            if process == later.process {
+                next = later.place;
+            }
+            if last != 0 && next <= last {
+                return true;
+            }
+        }
+        false
     }
 
     /// Raises the rows of the process's operations from this place on, up to the first that has the pair's first operation already: rows are
