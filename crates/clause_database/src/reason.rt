@@ -1,4 +1,4 @@
-//! Reasons of literals.
+//! Reasons of literals, in a few words each: every literal that becomes true writes one, and only those of a conflict are read.
 
 use order_sets::tables::at;
 use proof_log::codes::NEVER;
@@ -6,22 +6,21 @@ use proof_log::codes::NEVER;
 /// Reason (antecedent) of an assigned literal. It is kept as it was found; its clause is built only when conflict analysis asks for it.
 #[derive(Clone, Copy)]
 pub enum Reason {
-    /// A decision.
     Decision,
     /// A clause of at most three literals, of which these were false. It is stored inline, so that analysis reads no clause memory.
     Clause { id: u32, first: u32, second: u32 },
     /// The clause at this offset of the arena.
     Stored { place: u32 },
-    /// Transitivity of the order, via this event.
+    /// Transitivity of the order, via this event: one number, from which the clause and its id are computed.
     Transitive { element: u32 },
     /// The clause of this reads-from variable for this writer.
     Choice { choice: u32, writer: u32 },
 }
 
-/// A reason clause with its id, to be iterated over: in the arena, or inline with at most three literals.
+/// A reason clause with its id, to be iterated over: in the arena, or inline with at most three literals. It is a value and no slice, since
+/// a borrowed clause would lend the store while analysis changes marks and activities.
 #[derive(Clone, Copy)]
 pub struct ReasonClause {
-    /// The number of the clause.
     pub id: u32,
     /// Number of its literals.
     pub count: u32,

@@ -31,7 +31,6 @@ pub struct SmallClauses {
     ids: Vec<u32>,
 }
 
-/// Adds one to the entry.
 fn count_one(counts: &mut [u32], place: u32) {
     let count = at(counts, place, 0);
     put(counts, place, count.wrapping_add(1));

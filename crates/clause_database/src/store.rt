@@ -14,14 +14,13 @@ pub const GIVEN: u32 = 0;
 /// LBD that marks a clause to be dropped.
 pub const DROPPED: u32 = 0xffff_ffff;
 
-/// Clauses one after the other in one vector. A clause is named by the offset of its header. No clause is at offset 0.
+/// Clauses one after the other in one vector. A clause is named by the offset of its header. No clause is at offset 0, which stands for none.
 #[derive(Drop)]
 pub struct Store {
     words: Vec<u32>,
 }
 
 impl Store {
-    /// Starts without clauses.
     pub fn new(alloc: Global) -> Result<Store, AllocError> {
         Ok(Store {
             words: vec![in alloc; 0; 1]?,
@@ -52,7 +51,6 @@ impl Store {
         size(self.words.as_slice())
     }
 
-    /// Adds a clause.
     pub fn add(
         &mut self,
         literals: &[u32],
@@ -86,7 +84,6 @@ impl Store {
         )
     }
 
-    /// Returns the LBD of the clause.
     pub fn lbd(&self, clause: u32) -> u32 {
         at(self.words.as_slice(), clause.wrapping_add(2), 0)
     }
@@ -96,7 +93,6 @@ impl Store {
         at(self.words.as_slice(), clause.wrapping_add(3), 0)
     }
 
-    /// Sets the LBD of the clause.
     pub fn set_lbd(&mut self, clause: u32, lbd: u32) {
         put(self.words.as_mut_slice(), clause.wrapping_add(2), lbd);
     }
@@ -112,7 +108,7 @@ impl Store {
     }
 
     /// Returns a compacted arena without the clauses that are marked as dropped. In the old one the id of each clause becomes its
-    /// forwarding offset, or 0.
+    /// forwarding offset, or 0, so that watches and reasons are redirected without a table of their own.
     pub fn compacted(&mut self, alloc: Global) -> Result<Store, AllocError> {
         let mut compact = Store::new(alloc)?;
         let mut clause: u32 = 1;

@@ -23,7 +23,6 @@ pub struct Watches {
     lists: Vec<Vec<Watch>>,
 }
 
-/// Returns the watch at this place.
 #[inline(always)]
 pub fn watch_at(list: &[Watch], place: u32) -> Watch {
     let nothing = Watch {
@@ -64,7 +63,6 @@ impl Watches {
         at(self.places.as_slice(), literal, 0).wrapping_sub(1) as usize
     }
 
-    /// Adds a watch of the clause.
     #[inline(always)]
     pub fn add(&mut self, literal: u32, watch: Watch) -> Result<(), AllocError> {
         if at(self.places.as_slice(), literal, 1) == 0 {
@@ -110,7 +108,6 @@ impl Watches {
         }
     }
 
-    /// Puts the watch list of the literal back.
     #[inline(always)]
     pub fn give_back(&mut self, literal: u32, list: Vec<Watch>) {
         let place = self.place(literal);

@@ -59,6 +59,7 @@ pub fn add_cycle(
     for reader in cycle.readers() {
         operations.push(operation_of(reads, *reader))?;
     }
+    // No operation may be the first, so none has a literal that says so, and the clause that is left is empty.
     let own = vec![in alloc; NEVER; cycle.readers().len()]?;
     let mut elimination = Elimination::of(alloc, order, Side::Before, operations, own)?;
     for reader in cycle.readers() {

@@ -159,8 +159,8 @@ impl Elimination {
         Ok(())
     }
 
-    /// Eliminates one operation after the other, and deletes the clauses that no later step needs. Returns the number of the clause that is
-    /// left: one of the own literals is true.
+    /// Eliminates one operation after the other, and deletes the clauses that no later step needs, so that the checker holds one for each
+    /// operation that is left. Returns the number of the clause that is left: one of the own literals is true.
     pub fn run(&mut self, alloc: Global, log: &mut StepLog) -> Result<u32, AllocError> {
         for last in (1..size(self.operations.as_slice())).rev() {
             let mut old = Vec::new(alloc);

@@ -91,6 +91,7 @@ impl ProofWriter {
         if is_tautology(self.literals) {
             return Ok(ShortClause::tautology());
         }
+        // The checker would refuse the step, so no derivation is handed out.
         if !self.replay.has_conflict() {
             self.log.spoil();
         }
@@ -135,7 +136,7 @@ impl ProofWriter {
         Ok(ShortClause { id, literals })
     }
 
-    /// Defines a literal that is true if one of two is.
+    /// Defines a literal that is true if one of two is. If one is a constant or both are the same, that takes no variable and no line.
     pub fn define_or(&mut self, first: u32, second: u32) -> Result<Definition, AllocError> {
         if first == NEVER {
             return Ok(Definition::same(second));

@@ -55,7 +55,6 @@ impl Replay {
         Ok(())
     }
 
-    /// Returns whether the literal is true.
     fn is_true(&self, literal: u32) -> bool {
         self.trues.as_slice().iter().any(|other| *other == literal)
     }
@@ -109,7 +108,6 @@ impl Replay {
         self.has_conflict
     }
 
-    /// Returns the hints so far.
     pub fn hints(&self) -> &[i64] {
         self.hints.as_slice()
     }

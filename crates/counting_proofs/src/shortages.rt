@@ -15,8 +15,8 @@ struct Cited<'a> {
     units: &'a UnitTable,
 }
 
-/// Returns the number of a clause which says that the reader makes one of those of its choices that are not excluded. It is the reader's
-/// own clause if none is excluded.
+/// Returns the number of a clause which says that the reader makes one of those of its choices that are not excluded, so that the steps that
+/// cite it need not say why the others are. It is the reader's own clause if none is excluded.
 fn open_clause(
     alloc: Global,
     writer: &mut ProofWriter,

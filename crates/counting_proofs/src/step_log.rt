@@ -29,7 +29,8 @@ pub struct StepLog {
     is_whole: bool,
 }
 
-/// Returns the literals of these codes, each once, without the constant that is never true.
+/// Returns the literals of these codes, each once, without the constant that is never true: steps of three literals are filled up with it, and
+/// at the border of a count two of them may be the same.
 fn literals_of(alloc: Global, codes: &[u32]) -> Result<Vec<Lit>, AllocError> {
     let mut literals: Vec<Lit> = Vec::with_capacity(alloc, codes.len())?;
     for code in codes {

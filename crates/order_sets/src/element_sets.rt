@@ -3,7 +3,7 @@
 use crate::tables::{at, put};
 use std::alloc::{AllocError, Global};
 
-/// Maximum number of elements of an order: a set is three words of 64 bits.
+/// Maximum number of elements of an order: a set is three words of 64 bits, enough for the 160 operations that a formula may have.
 pub const MAX_ELEMENTS: u32 = 192;
 
 /// Number of 64-bit words of a set.
@@ -23,13 +23,15 @@ fn bit(element: u32) -> u64 {
     1 << (element & 63)
 }
 
-/// Returns the place of the element's word in the set of its owner.
+/// Returns the place of the element's word in the set of its owner. The distance of two sets is a constant and not `words`, since this is
+/// computed at every look at a set.
 #[inline(always)]
 fn word_of(owner: u32, element: u32) -> u32 {
     owner.wrapping_mul(WORDS).wrapping_add(element >> 6)
 }
 
-/// Removes the first element from a word of a set, if it has one, and returns it.
+/// Removes the first element from a word of a set, if it has one, and returns it. A word has 64 at most, so callers loop over it by a `for`
+/// of 64 turns, which needs no measure to be proved to end.
 #[inline(always)]
 pub fn next_element(word: &mut u64, number: u32) -> Option<u32> {
     let left = *word;
@@ -56,7 +58,6 @@ impl ElementSets {
         self.words
     }
 
-    /// Returns a word of the owner's set.
     #[inline(always)]
     pub fn word(&self, owner: u32, number: u32) -> u64 {
         at(
@@ -66,20 +67,17 @@ impl ElementSets {
         )
     }
 
-    /// Writes a word of the owner's set.
     #[inline(always)]
     pub fn set_word(&mut self, owner: u32, number: u32, word: u64) {
         let place = owner.wrapping_mul(WORDS).wrapping_add(number);
         put(self.sets.as_mut_slice(), place, word);
     }
 
-    /// Returns whether the element is in the set of the owner.
     #[inline(always)]
     pub fn has(&self, owner: u32, element: u32) -> bool {
         at(self.sets.as_slice(), word_of(owner, element), 0) & bit(element) != 0
     }
 
-    /// Puts the element into the set of its owner.
     #[inline(always)]
     pub fn insert(&mut self, owner: u32, element: u32) {
         let place = word_of(owner, element);
@@ -87,7 +85,6 @@ impl ElementSets {
         put(self.sets.as_mut_slice(), place, word | bit(element));
     }
 
-    /// Removes the element from the set of its owner.
     #[inline(always)]
     pub fn take_out(&mut self, owner: u32, element: u32) {
         let place = word_of(owner, element);
@@ -106,7 +103,6 @@ impl ElementSets {
         MAX_ELEMENTS
     }
 
-    /// Returns the number of elements of the owner's set.
     pub fn count(&self, owner: u32) -> u32 {
         self.count_below(owner, MAX_ELEMENTS)
     }

@@ -25,10 +25,12 @@ pub struct OrderMatrix {
     variables: u32,
     successors: ElementSets,
     before: ElementSets,
-    /// For each element i the number y(i,j) minus j.
+    /// For each element i the number y(i,j) minus j, so that a literal's number takes one addition.
     bases: Vec<u32>,
-    /// For each variable its two elements, i in the upper half.
+    /// For each variable its two elements, i in the upper half. They are tabled since y(i,j) is quadratic in i: to find i again would take a
+    /// root or a search.
     pairs: Vec<u32>,
+    /// What the last added pair implied, up to `count`. It has room for all variables, so that `add` takes no memory and cannot fail.
     implied: Vec<Implied>,
     count: u32,
 }
@@ -144,7 +146,8 @@ impl OrderMatrix {
     }
 
     /// Adds the pair (a, b) and closes the order incrementally: all of a and its predecessors come before all of b and its successors. New
-    /// literals are in `implied`, each after those from which it follows. Precondition (not checked): b is not before a.
+    /// literals are in `implied`, each after those from which it follows, since hints of a proof must name what is known already.
+    /// Precondition (not checked): b is not before a.
     pub fn add(&mut self, a: u32, b: u32) {
         self.count = 0;
         self.inherit_behind(a, b);
@@ -171,7 +174,8 @@ impl OrderMatrix {
         piece(self.implied.as_slice(), 0, self.count)
     }
 
-    /// Removes the pair (a, b) alone. Callers undo all later pairs too, in reverse order, as the trail does.
+    /// Removes the pair (a, b) alone. Callers undo all later pairs too, in reverse order, as the trail does: each implied pair is a literal of
+    /// its own there, so nothing has to be closed anew.
     #[inline(always)]
     pub fn remove(&mut self, a: u32, b: u32) {
         self.successors.take_out(a, b);

@@ -1,4 +1,7 @@
 //! The numbers of an order's variables, and how many clauses say that it is transitive.
+//!
+//! `var_layout` and `clause_blocks` have these rules too, where they are proved. They stand here again since a search knows no trace, and
+//! what it computes is not believed.
 
 /// Returns the number of pairs of elements, which is that of the order's variables.
 #[inline(always)]

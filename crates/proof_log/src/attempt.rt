@@ -34,7 +34,6 @@ impl<S: Learner + Drop> Attempt<S> {
         }
     }
 
-    /// Returns the search.
     pub fn search(&self) -> &S {
         &self.search
     }
@@ -80,7 +79,9 @@ impl<S: Learner + Drop> Attempt<S> {
     }
 }
 
-/// Runs an attempt by turns, until it has an answer or has analysed `budget` conflicts and met one more.
+/// Runs an attempt by turns, until it has an answer or has analysed `budget` conflicts and met one more. There are turns though nothing is
+/// run beside it, since sources are counted again after each: if one is excluded by a case distinction alone, the search does not end by
+/// itself.
 pub fn search_alone<S: Learner + Drop>(
     attempt: &mut Attempt<S>,
     budget: u64,

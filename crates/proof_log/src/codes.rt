@@ -8,7 +8,6 @@ use dimacs::Lit;
 /// A literal that is never true. It fills up clauses of fewer literals.
 pub const NEVER: u32 = 0;
 
-/// Returns the code of the literal.
 #[inline(always)]
 pub fn code_of(literal: Lit) -> u32 {
     let code = literal.variable().wrapping_mul(2);
@@ -19,7 +18,6 @@ pub fn code_of(literal: Lit) -> u32 {
     }
 }
 
-/// Returns the literal of this code.
 pub fn literal_of(code: u32) -> Lit {
     let number = i32::try_from(code >> 1).unwrap_or(0);
     let literal = Lit::new(number).unwrap_or_default();

@@ -8,7 +8,7 @@ use dimacs::Lit;
 use std::alloc::{AllocError, Global};
 
 /// A solver that knows its formula, and answers cubes of it. All workers share it. Nothing is promised of an answer but that it keeps to
-/// the budget.
+/// the budget. It is a trait so that what is proved of the workers holds for any solver, one that lies too.
 pub trait CubeSolver {
     /// Looks for a model of the formula that makes all literals of the cube true, or for a derivation that there is none. At most `budget`
     /// conflicts are analysed.

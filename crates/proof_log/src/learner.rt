@@ -6,7 +6,8 @@ use lrat_check::derivation::Derivation;
 use std::alloc::AllocError;
 
 /// A clause-learning search: it learns a clause from each conflict, where a conflict is a clause all of whose literals have become false.
-/// Literals are given by their codes. Nothing is promised of what it learns.
+/// Literals are given by their codes. Nothing is promised of what it learns. It is a trait so that the budget is proved once, for any search,
+/// and not anew whenever a search changes.
 pub trait Learner {
     /// Decides and propagates until there is a conflict or nothing is left to decide. Returns whether there is a conflict, which is kept
     /// until it is analysed.

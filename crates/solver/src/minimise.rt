@@ -29,7 +29,6 @@ impl<'a> Search<'a> {
     /// Visits the antecedents of this variable, and puts those that need a further visit on the stack. Returns whether one of them cannot
     /// be implied by the rest of the clause: a decision, or one of a level that the clause has not.
     fn leads_elsewhere(&mut self, variable: u32, levels: u32) -> Result<bool, AllocError> {
-        // The literal of the variable that is true: of the two codes, the one without the falsehood.
         let literal = self.true_literal(variable);
         let reason = self.trail.reason(&self.store, literal);
         for number in 0..reason.count {
@@ -47,8 +46,8 @@ impl<'a> Search<'a> {
         Ok(false)
     }
 
-    /// Returns whether the other literals of the learned clause imply this one. Visited variables stay marked as implied if so, and lose their
-    /// marks if not.
+    /// Returns whether the other literals of the learned clause imply this one. Visited variables stay marked as implied if so, so that no
+    /// walk of this clause visits them again, and lose their marks if not.
     fn is_implied(&mut self, literal: u32, levels: u32) -> Result<bool, AllocError> {
         if self.trail.was_decided(literal) {
             return Ok(false);

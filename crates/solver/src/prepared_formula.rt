@@ -9,7 +9,8 @@ use std::alloc::{AllocError, Global};
 use std::sync::atomic::{AtomicU64, Ordering};
 
 /// The clauses of a formula in the form in which every search of one of its cubes begins. It is made once and then only read, but for a
-/// count of conflicts, so all cubes share it, in whichever threads they are searched.
+/// count of conflicts, so all cubes share it, in whichever threads they are searched. Nothing is made true in it, though unit clauses could
+/// be: a cube's literals come first on a trail, and hints name them.
 ///
 /// Untrusted: using the preparation of a different formula yields answers that the check refuses, and never a wrong verdict (see
 /// `EncodingHints`).
@@ -70,7 +71,7 @@ impl<'a> PreparedFormula<'a> {
         PreparedFormula::over(alloc, formula.variables(), formula, encoding)
     }
 
-    /// Loads it likewise, over this many variables.
+    /// Loads it likewise, over this many variables: a cube may have one that the formula has not.
     pub(crate) fn over<L: ClauseList>(
         alloc: Global,
         variables: u32,

@@ -21,7 +21,7 @@ enum WatchVisit {
 }
 
 /// Returns the place of the first clause, from this place on, that is unit or in conflict: of its two other literals one is false and the
-/// other is not true. Most of the time of a search is spent here, finding none, so the loop reads nothing but values.
+/// other is not true. Most of the time of a search is spent here, finding none, so the loop reads nothing but values, and one `|` asks for both.
 #[inline(always)]
 fn next_touched(others: &[Others], from: u32, values: &[u8]) -> u32 {
     let length = size(others);
@@ -101,6 +101,7 @@ fn visit_clause(
     let begin = clause.wrapping_add(HEADER);
     let behind_first = begin.wrapping_add(1);
     let mut first = at(words, begin, 0);
+    // The falsified literal goes second: a literal that the clause makes true stands first, where `is_in_use` looks for it.
     if first == falsified {
         first = at(words, behind_first, 0);
         put(words, begin, first);
@@ -142,6 +143,7 @@ fn visit_stored(
     let mut conflict: u32 = 0;
     for place in 0..size(list.as_slice()) {
         let mut watch = watch_at(list.as_slice(), place);
+        // After a conflict the rest of the list is only moved up, so that no watch is lost.
         if conflict == 0 && trail.value(watch.blocker) != TRUE {
             match visit_clause(trail, store.words_mut(), watch.clause, falsified) {
                 WatchVisit::Stays(first) => watch.blocker = first,
@@ -162,7 +164,8 @@ fn visit_stored(
     Ok(conflict)
 }
 
-/// Propagates all literals of the trail, over this many variables, to a fixed point or to a conflict, which it returns.
+/// Propagates all literals of the trail, over this many variables, to a fixed point or to a conflict, which it returns. For each literal the
+/// clauses that cost least come first, those that are sets of bits and then the small ones, since a conflict spares the rest.
 pub fn propagate(
     trail: &mut OrderedTrail<'_>,
     small: &SmallClauses,
@@ -201,7 +204,8 @@ impl<'a> Search<'a> {
         )
     }
 
-    /// Propagates likewise, with these clauses of two and three literals.
+    /// Propagates likewise, with these clauses of two and three literals: at first those of the formula, of which the search then copies only
+    /// what is not true for good.
     pub fn propagate_by(
         &mut self,
         small: &SmallClauses,

@@ -7,7 +7,7 @@ use order_sets::tables::{at, put, size};
 use std::alloc::AllocError;
 use std::mem;
 
-/// Conflicts before the first reduction.
+/// Conflicts before the first reduction. Other numbers moved the mean of the conflicts by less than the choice of runs does.
 pub const FIRST_REDUCTION: u32 = 500;
 
 /// Increment of the interval between two reductions, in conflicts.

@@ -244,7 +244,7 @@ impl<'a> Search<'a> {
         Ok(())
     }
 
-    /// Picks the next of the leading variables.
+    /// Picks the next of the leading variables. They are those of a tree's splits, at most twenty, so they are looked through each time.
     fn decide_leading(&self) -> Option<u32> {
         for variable in &self.leading {
             let literal = variable.wrapping_mul(2);
@@ -305,7 +305,7 @@ impl<'a> Search<'a> {
     }
 
     /// Returns the level to jump back to: the latest among the other literals of the learned clause, at which the clause is unit. The
-    /// literal of that level goes second, to be watched.
+    /// literal of that level goes second, to be watched: it is the first of them to become open again.
     fn level_to_resume(&mut self) -> u32 {
         let mut latest: u32 = 1;
         let mut level: u32 = 0;

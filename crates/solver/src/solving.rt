@@ -35,7 +35,7 @@ pub(crate) fn begin<'a>(
 }
 
 /// Goes on with an attempt, and begins a second one on the other course, which takes its turns with the first. The conflicts of the second
-/// are counted.
+/// are counted. Each keeps to clauses of its own: shared ones spoiled both in a trial.
 fn search_by_two<'a>(
     alloc: Global,
     prepared: &PreparedFormula<'a>,
@@ -49,6 +49,7 @@ fn search_by_two<'a>(
     let mut other = begin(alloc, prepared, cube)?;
     other.change_course()?;
     let mut second = Attempt::new(alloc, other, first_id);
+    // The first has had a turn.
     let found = take_turns(&mut second, first, budget);
     prepared.add_conflicts(second.log.additions());
     found

@@ -8,7 +8,8 @@ use proof_log::{Answer, CubeSolver};
 use std::alloc::{AllocError, Global};
 
 /// Answers a cube of a prepared formula by a derivation that too many readers want too few sources, if there is one of at most `budget` steps,
-/// and else leaves it open.
+/// and else leaves it open. So a count can have a budget of its own: 40 acquires of a lock want more than 100,000 steps, whatever was set for
+/// conflicts.
 #[derive(Clone, Copy)]
 pub struct SourceCounter<'p, 'a> {
     prepared: &'p PreparedFormula<'a>,

@@ -90,6 +90,7 @@ impl<'a> Search<'a> {
         if id != 0 {
             return Ok(id);
         }
+        // A unit clause of the formula or of the cube is named as it is, and takes no step.
         let reason = self.trail.reason(&self.store, literal);
         id = reason.id;
         if reason.count != 0 {

@@ -99,7 +99,7 @@ impl<'a> PreparedFormula<'a> {
         Ok(())
     }
 
-    /// Returns the place of the cube among those that are refuted, or one past them.
+    /// Returns the place of the cube among those that are refuted, or one past them. They are at most sixteen, so they are looked through.
     fn place_of(&self, cube: &[Lit]) -> usize {
         for place in 0..self.refuted_cubes.len() {
             if self.refuted_cubes[place].cube.as_slice() == cube {

@@ -86,7 +86,6 @@ impl<'a> GreedyMatching<'a> {
         }
     }
 
-    /// Returns whether there is an update.
     pub fn has_updates(&self) -> bool {
         self.updates.iter().any(|word| *word != 0)
     }

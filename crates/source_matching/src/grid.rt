@@ -23,7 +23,6 @@ impl<T: Copy> Grid<T> {
         })
     }
 
-    /// Returns the entry of this row and column.
     #[inline(always)]
     pub fn get(&self, row: u32, column: u32) -> T {
         if column >= self.columns {
@@ -33,7 +32,6 @@ impl<T: Copy> Grid<T> {
         at(self.items.as_slice(), place, self.filling)
     }
 
-    /// Writes the entry of this row and column.
     #[inline(always)]
     pub fn set(&mut self, row: u32, column: u32, value: T) {
         if column < self.columns {

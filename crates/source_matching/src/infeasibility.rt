@@ -28,6 +28,7 @@ fn find_ending(
     for writer in &writers {
         let candidates = candidates_of(alloc, known, *writer)?;
         let sources = matching.possible().sources();
+        // One that no reader may have as its source is free to be the last writer.
         let may_be_read = candidates.iter().all(|candidate| *candidate < sources);
         if may_be_read && matching.has_none_for(candidates.as_slice())? {
             let mut readers = Vec::new(alloc);

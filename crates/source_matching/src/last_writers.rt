@@ -92,7 +92,6 @@ impl LastWriters {
         candidates.saturating_mul(sum)
     }
 
-    /// Returns the writers.
     pub fn writers(&self) -> &[u32] {
         self.writers.as_slice()
     }
@@ -102,7 +101,8 @@ impl LastWriters {
         self.candidates.as_slice()
     }
 
-    /// Returns one of the candidates that surely comes after this writer, which is no candidate.
+    /// Returns one of the candidates that surely comes after this writer, which is no candidate. It is the same one at each call: the literal
+    /// that says so becomes a unit clause of the proof, and later steps name just that one.
     pub fn candidate_behind(&self, known: KnownOrder<'_>, writer: u32) -> Option<u32> {
         let mut found = None;
         for candidate in &self.candidates {

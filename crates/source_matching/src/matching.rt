@@ -80,7 +80,8 @@ impl Matching {
         &self.possible
     }
 
-    /// Returns the smallest Hall violator that alternating paths from an unmatched reader reach, or no reader if all are matched.
+    /// Returns the smallest Hall violator that alternating paths from an unmatched reader reach, or no reader if all are matched. Its
+    /// derivation grows with the cube of its sources, so a second walk from each unmatched reader is cheap.
     pub fn smallest_shortage(&mut self, alloc: Global) -> Result<Vec<u32>, AllocError> {
         let mut smallest = Vec::new(alloc);
         for number in 0..size(self.left_over.as_slice()) {

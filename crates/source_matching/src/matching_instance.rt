@@ -32,7 +32,6 @@ pub struct ReadsFromEdge {
     pub source: u32,
     /// The source's place among the writers of its location, or none for the initial value.
     pub place: Option<u32>,
-    /// The variable.
     pub variable: u32,
     /// The number of the first of its clauses, counted from 1.
     pub first: u32,

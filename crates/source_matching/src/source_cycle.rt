@@ -47,7 +47,6 @@ fn has_all_within(possible: &SourceSets, reader: u32, within: &[u64]) -> bool {
     true
 }
 
-/// Returns whether the source is in the set.
 #[inline(always)]
 pub fn is_member(set: &[u64], source: u32) -> bool {
     at(set, source >> 6, 0) >> (source & 63) & 1 == 1
@@ -63,7 +62,7 @@ pub fn set_member(set: &mut [u64], source: u32, is_member: bool) {
 }
 
 /// Removes, one after the other, each update that may have a source outside of those that are left. Returns those that are left at the end,
-/// as a set of sources, and how many they are.
+/// as a set of sources, and how many they are. Each round looks at all of them, without a worklist: they are at most a few hundred.
 fn without_outsiders(alloc: Global, possible: &SourceSets) -> Result<(Vec<u64>, u32), AllocError> {
     let mut left = vec![in alloc; 0; possible.words() as usize]?;
     let mut count: u32 = 0;

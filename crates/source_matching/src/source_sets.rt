@@ -85,7 +85,7 @@ impl SourceSets {
         }
     }
 
-    /// Sets the sources of the one more reader.
+    /// Sets the sources of the one more reader, in place, so that the last writers of each location are tried without a copy.
     pub fn set_last(&mut self, sources: &[u32]) {
         let last = self.readers();
         for number in 0..self.words {
