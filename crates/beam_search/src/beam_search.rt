@@ -29,7 +29,6 @@ const LOOKS_OF_PROCESS: u64 = 24;
 
 const LOOKS_OF_LOCATION: u64 = 4;
 
-/// A layer and its number.
 #[derive(Drop)]
 struct KeptLayer {
     depth: u32,
@@ -356,7 +355,8 @@ impl<'a> BeamSearch<'a> {
         self.place(successor.process, number, cost)
     }
 
-    /// Reads the schedule off the steps to this state of the layer.
+    /// Reads the schedule off the steps to this state of the layer. States do not have the operations that were placed, so these are placed once
+    /// more, from the front.
     fn read_off(&mut self, alloc: Global, number: u32) -> Result<(), AllocError> {
         let processes = self.log.processes().max(1);
         let mut ways = Vec::new(alloc);

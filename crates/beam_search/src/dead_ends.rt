@@ -1,4 +1,5 @@
-//! Layers that no layer follows, and where the search goes on then.
+//! Layers that no layer follows, and where the search goes on then: some layers back, since all states of such a layer mostly come of one wrong
+//! state there. In a prototype one log took a beam of 16,000 states without going back, and of 500 with it.
 
 use crate::beam::Beam;
 

@@ -4,7 +4,7 @@ use crate::state::State;
 use order_sets::tables::{at, piece, put, size};
 use std::alloc::{AllocError, Global};
 
-/// States in all of which as many writers are placed, one behind the other in flat tables.
+/// States in all of which as many writers are placed, one behind the other in flat tables, so that a state takes no memory of its own.
 pub(crate) struct Layer {
     count: u32,
     processes: u32,
@@ -43,7 +43,6 @@ fn copy_out(table: &[u32], from: u32, into: &mut Vec<u32>) {
     }
 }
 
-/// Adds the entries to the table.
 fn append(table: &mut Vec<u32>, entries: &[u32]) -> Result<(), AllocError> {
     for place in 0..size(entries) {
         table.push(at(entries, place, 0))?;

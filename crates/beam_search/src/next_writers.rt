@@ -5,7 +5,7 @@ use numbered_log::{NOBODY, NumberedLog};
 use order_sets::tables::{at, put};
 use std::alloc::{AllocError, Global};
 
-/// The most entries of the table.
+/// The most entries of the table. A log that needs more has no beams.
 const MOST_NEXT_WRITERS: u64 = 1 << 22;
 
 /// For each process, place and class the place of the first writer of the class from there on in the process, or `NOBODY`.

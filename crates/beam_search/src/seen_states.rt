@@ -23,7 +23,7 @@ impl Drop for SeenStates {
     }
 }
 
-/// The most slots that are looked at.
+/// The most slots that are looked at. A state that finds none counts as new: one that is kept twice costs time alone.
 const MOST_PROBES: u32 = 32;
 
 /// The number of slots for this number of states: a power of two, and at least twice as many, up to a million.

@@ -53,7 +53,6 @@ impl State {
         })
     }
 
-    /// The number of processes.
     #[inline(always)]
     pub(crate) fn processes(&self) -> u32 {
         size(self.fronts.as_slice())
@@ -195,7 +194,8 @@ impl State {
         placed
     }
 
-    /// A number that is the same of the same fronts and classes held, and mostly differs otherwise.
+    /// A number that is the same of the same fronts and classes held, and mostly differs otherwise. Two states of one number are taken for one,
+    /// which can lose a schedule, and makes none wrong.
     pub(crate) fn mixed(&self) -> u64 {
         let mut mixed: u64 = 0x9e37_79b9_7f4a_7c15;
         for process in 0..self.processes() {

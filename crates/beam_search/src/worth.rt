@@ -71,7 +71,8 @@ impl State {
         self.held(location) == needed
     }
 
-    /// The number of operations of another process up to the nearest writer of what this one's next operation reads, or `NOBODY`.
+    /// The number of operations of another process up to the nearest writer of what this one's next operation reads, or `NOBODY`. It is not
+    /// counted through processes that wait themselves: with that beams came no further (0.44 of a log for 0.46).
     fn nearest_writer(
         &self,
         log: &ClassedLog,

@@ -32,7 +32,8 @@ const NO_BOUND: RowEntry = RowEntry {
 };
 
 /// For each operation two rows with a place for each process: the first of its operations that stands after this one, and the last one
-/// that stands before it. As a process is a chain, these say of each two operations whether one stands before the other.
+/// that stands before it. As a process is a chain, these say of each two operations whether one stands before the other, in tables of
+/// operations times processes, where a bit for each two operations would grow with the square of a log.
 pub struct ClosedRows {
     width: u32,
     /// The place after the last where nothing stands after the operation.
@@ -42,6 +43,7 @@ pub struct ClosedRows {
     changes: Vec<RowChange>,
     /// The most changes that are kept.
     most_changes: usize,
+    /// Before the first decision nothing will be taken back, so changes are not kept.
     keeps_changes: bool,
     /// What a new pair says of what stands before its second operation, where that is news.
     floors: Vec<RowEntry>,

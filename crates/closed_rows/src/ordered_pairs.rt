@@ -5,7 +5,6 @@ use order_sets::tables::{at, put, size};
 use possible_sources::Time;
 use std::alloc::{AllocError, Global};
 
-/// The reason of a pair.
 #[derive(Clone, Copy, PartialEq, Eq)]
 pub enum PairReason {
     /// The trace has it.
@@ -20,7 +19,6 @@ pub enum PairReason {
     BeforeSource(u32),
     /// The second operation is the only last writer of this final value's location.
     BeforeLast(u32),
-    /// It was decided.
     Decided,
     /// It is what the learned clause of this number leaves.
     Learned(u32),
@@ -37,7 +35,7 @@ pub struct OrderedPair {
     pub time: Time,
     /// The number of decisions that stood when it was added.
     pub level: u32,
-    /// The pair before this one with the same first operation.
+    /// The pair before this one with the same first operation: when this one is taken back, it is the last again.
     pub previous: u32,
 }
 
@@ -110,7 +108,6 @@ impl OrderedPairs {
         self.count() >= self.most
     }
 
-    /// The pair of this number.
     #[inline(always)]
     pub fn pair(&self, number: u32) -> OrderedPair {
         at(self.pairs.as_slice(), number, NO_PAIR)

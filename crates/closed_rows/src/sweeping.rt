@@ -23,7 +23,7 @@ struct Sweep {
     next: Vec<u32>,
     /// For each process the place of its next operation.
     fronts: Vec<u32>,
-    /// For each process the operation that its next one waits for, or `NOBODY`.
+    /// For each process the operation that its next one waits for, or `NOBODY`: one look says whether it still has to wait.
     awaited: Vec<u32>,
     /// The operations that were passed.
     passed: Vec<u32>,

@@ -27,7 +27,8 @@ struct Answered {
     turn: u32,
 }
 
-/// The number of answered questions that are kept, which is a power of two.
+/// The number of answered questions that are kept, which is a power of two. One whose slot another has taken is asked again, which costs time
+/// alone.
 const KEPT_ANSWERS: u32 = 1 << 14;
 
 /// Nothing answered.

@@ -3,7 +3,7 @@
 use order_sets::tables::{at, piece, size};
 use std::alloc::{AllocError, Global};
 
-/// Lists, one behind the other.
+/// Lists, one behind the other in one table, since a walk may learn 200,000 clauses.
 pub(crate) struct GroundLists {
     entries: Vec<u32>,
     /// The place at which the first list begins, and for each list the place behind it.
@@ -52,7 +52,6 @@ impl GroundLists {
         self.begin(number.wrapping_add(1))
     }
 
-    /// The list of this number.
     pub(crate) fn list(&self, number: u32) -> &[u32] {
         piece(
             self.entries.as_slice(),
@@ -61,13 +60,12 @@ impl GroundLists {
         )
     }
 
-    /// The entry at this place.
     pub(crate) fn entry(&self, place: u32) -> u32 {
         at(self.entries.as_slice(), place, 0)
     }
 }
 
-/// The most entries of one kind.
+/// The most entries of one kind. Beyond these a walk goes on, and has no core.
 const MOST_ENTRIES: u32 = 1 << 21;
 
 /// For each learned clause what its derivation rests on: the operations that it names, the clauses that it uses, and pairs of no decision.

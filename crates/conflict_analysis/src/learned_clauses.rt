@@ -222,7 +222,8 @@ impl LearnedClauses {
         Ok(Propagated::Spent)
     }
 
-    /// Adds what the clauses say.
+    /// Adds what the clauses say. All that are kept are looked at, at two literals each: a literal is refuted by whatever closes the rows, and no
+    /// assignment of its own could wake just the clauses that watch it.
     fn look_at_all(&mut self, order: &mut Propagation<'_>) -> Result<(), Stop> {
         let count = size(self.kept.as_slice());
         order.spend((count as u64).wrapping_mul(4));
@@ -293,7 +294,8 @@ impl LearnedClauses {
         }
     }
 
-    /// A literal of one of the clauses that were learned last and do not hold yet, the one whose operations were in most conflicts of late.
+    /// A literal of one of the clauses that were learned last and do not hold yet, the one whose operations were in most conflicts of late: so
+    /// a walk stays at what it has just learned of (Goldberg and Novikov, "BerkMin", 2002).
     pub fn pick(&self, order: &Propagation<'_>, clauses: u32) -> Option<Literal> {
         let count = self.count();
         for back in 1..clauses.min(count).wrapping_add(1) {

@@ -111,7 +111,8 @@ impl PassedFronts {
         NOBODY
     }
 
-    /// Goes from a process that waits to the one that it waits for, until one comes again.
+    /// Goes from a process that waits to the one that it waits for, until one comes again. So a cycle has at most as many pairs as there are
+    /// processes, and few reasons.
     fn find_cycle(&self, alloc: Global, order: &Propagation<'_>) -> Result<Vec<u32>, AllocError> {
         let processes = order.log().processes();
         let mut seen = vec![in alloc; NOBODY; processes as usize]?;

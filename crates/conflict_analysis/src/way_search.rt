@@ -14,7 +14,8 @@ pub struct WayQuestion {
     pub time: Time,
 }
 
-/// A search for a way with the fewest pairs that are not used yet.
+/// A search for a way with the fewest pairs that are not used yet, since each of them is a further literal or a further question. A pair costs
+/// one or nothing, so two lists are enough for the order in which operations are met.
 pub struct WaySearch {
     /// The number of the search at hand, by which each operation that it has met is known.
     turn: u32,

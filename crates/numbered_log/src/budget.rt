@@ -1,6 +1,7 @@
 //! The work that is left, in steps.
 
-/// A number of steps that may still be taken. A step is a look at an entry of a table, more or less.
+/// A number of steps that may still be taken. A step is a look at an entry of a table, more or less. It is steps and not seconds, so that a
+/// run can be repeated.
 #[derive(Clone, Copy)]
 pub struct Budget {
     left: u64,
@@ -18,7 +19,7 @@ impl Budget {
         self.left = self.left.saturating_sub(steps);
     }
 
-    /// Takes all steps away, if there is no more room to go on.
+    /// Takes all steps away, if there is no more room to go on. So a full list needs no ending of its own.
     pub fn use_up(&mut self) {
         self.left = 0;
     }
@@ -29,7 +30,6 @@ impl Budget {
         self.left == 0
     }
 
-    /// The number of steps left.
     pub fn left(&self) -> u64 {
         self.left
     }

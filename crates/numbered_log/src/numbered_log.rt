@@ -17,7 +17,8 @@ pub enum NumberedOrigin {
     Operation(u32),
 }
 
-/// An operation. Its number among all is that of the first one of its process, and its place less one.
+/// An operation. Its number among all is that of the first one of its process, and its place less one, so that a place gives the number
+/// without a table.
 #[derive(Clone, Copy)]
 pub struct Operation {
     pub process: u32,
@@ -33,7 +34,7 @@ pub struct Operation {
     pub origin: NumberedOrigin,
 }
 
-/// The operation in place of one that is not there.
+/// The operation in place of one that is not there. It reads and writes nothing, so a wrong number costs an answer and makes none wrong.
 const MISSING: Operation = Operation {
     process: 0,
     place: 0,
@@ -50,7 +51,7 @@ const MISSING: Operation = Operation {
 pub struct NumberedPair {
     pub first: u32,
     pub second: u32,
-    /// Whether times say so, and not a pair of the trace.
+    /// Whether times say so, and not a pair of the trace: a certificate has another line for it.
     pub is_timed: bool,
 }
 
@@ -149,12 +150,10 @@ impl NumberedLog {
         size(self.starts.as_slice()).wrapping_sub(1)
     }
 
-    /// The number of locations.
     pub fn locations(&self) -> u32 {
         size(self.initial.as_slice())
     }
 
-    /// The operation of this number.
     #[inline(always)]
     pub fn operation(&self, number: u32) -> Operation {
         at(self.operations.as_slice(), number, MISSING)

@@ -29,7 +29,6 @@ pub(crate) struct CertificateText<'a> {
     variables: HashMap<OrderVariable, u32>,
 }
 
-/// The variable of the literal.
 fn variable_of(literal: Literal) -> OrderVariable {
     OrderVariable {
         first: literal.first.min(literal.second),
@@ -52,7 +51,6 @@ impl<'a> CertificateText<'a> {
         })
     }
 
-    /// The text.
     pub(crate) fn into_bytes(self) -> Vec<u8> {
         let CertificateText {
             names: _,
@@ -118,7 +116,6 @@ impl<'a> CertificateText<'a> {
             .extend_from_slice(buffer.format(number).as_bytes())
     }
 
-    /// Begins the derivation.
     pub(crate) fn begin_derivation(&mut self) -> Result<(), AllocError> {
         self.bytes.extend_from_slice(b"p\n")
     }
@@ -150,7 +147,6 @@ impl<'a> CertificateText<'a> {
         self.push_number(number)
     }
 
-    /// Ends a step.
     pub(crate) fn end_step(&mut self) -> Result<(), AllocError> {
         self.bytes.extend_from_slice(b" 0\n")
     }

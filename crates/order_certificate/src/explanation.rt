@@ -165,7 +165,8 @@ impl Explanation {
         self.finish(order, clauses, literals)
     }
 
-    /// Goes back from what was asked, and derives the clause of these literals.
+    /// Goes back from what was asked, and derives the clause of these literals. Without a line for each reason there is no step, since a checker
+    /// would refuse it.
     pub(crate) fn finish(
         &mut self,
         order: &mut Propagation<'_>,
@@ -283,7 +284,7 @@ impl Explanation {
         Ok(())
     }
 
-    /// Asks why each marked pair was added, the last first.
+    /// Asks why each marked pair was added, the last first: reasons have earlier times, so each pair is asked for once.
     fn ask_reasons(
         &mut self,
         order: &Propagation<'_>,

@@ -7,7 +7,7 @@ use std::alloc::{AllocError, Global};
 /// The hints of the step at hand.
 pub(crate) struct HintList {
     hints: Vec<DerivationHint>,
-    /// For each line and each step the turn in which it was added last.
+    /// For each line and each step the turn in which it was added last, so that nothing is cleared for the next step.
     line_turns: Vec<u32>,
     step_turns: Vec<u32>,
     turn: u32,
@@ -64,7 +64,6 @@ impl HintList {
         Ok(())
     }
 
-    /// The hints.
     pub(crate) fn as_slice(&self) -> &[DerivationHint] {
         self.hints.as_slice()
     }

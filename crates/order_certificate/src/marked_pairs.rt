@@ -6,7 +6,7 @@ use std::alloc::{AllocError, Global};
 
 /// The pairs that are marked, and the steps that derive pairs of no decision.
 pub(crate) struct MarkedPairs {
-    /// For each pair, by number, whether it is marked. One that a step derives stays so.
+    /// For each pair, by number, whether it is marked. One that a step derives stays so: ways that lead over it then cost nothing more.
     is_marked: Vec<bool>,
     marked: Vec<u32>,
     /// For each pair the step that derives it, or `NOBODY`.

@@ -1,4 +1,4 @@
-//! Lines of reasons, each once.
+//! Lines of reasons, each once, since many clauses rest on the same ones.
 
 use crate::reason_words::ReasonWord;
 use numbered_log::NOBODY;
@@ -87,7 +87,6 @@ impl NumberedLines {
         size(self.words.as_slice()) > MOST_WORDS
     }
 
-    /// The words of the line.
     pub(crate) fn line(&self, number: u32) -> &[ReasonWord] {
         let begin = at(self.ends.as_slice(), number, 0);
         let end = at(self.ends.as_slice(), number.wrapping_add(1), 0);

@@ -59,7 +59,7 @@ impl OrderCertificate {
         }
     }
 
-    /// The steps on which the last one rests, and the lines of these.
+    /// The steps on which the last one rests, and the lines of these. What a walk has learned beside them is left out.
     fn needed(&self, alloc: Global) -> Result<NeededParts, AllocError> {
         let steps = self.last.saturating_add(1);
         let mut needed = NeededParts {

@@ -35,7 +35,7 @@ struct FoundFact {
     turn: u32,
 }
 
-/// The number of facts that are found again, which is a power of two.
+/// The number of facts that are found again, which is a power of two. One whose slot another has taken is looked for anew.
 const KEPT_FACTS: u32 = 1 << 14;
 
 /// The facts of one explanation.
@@ -59,7 +59,6 @@ impl Drop for OrderFacts {
     }
 }
 
-/// The slot of the question.
 fn slot_of(question: WayQuestion) -> u32 {
     let mixed = question
         .first
@@ -89,7 +88,6 @@ impl OrderFacts {
         self.turn = self.turn.wrapping_add(1);
     }
 
-    /// The fact of this number.
     pub(crate) fn fact(&self, number: u32) -> OrderFact {
         at(self.facts.as_slice(), number, NO_FACT)
     }

@@ -10,7 +10,8 @@ use order_propagation::{Propagated, Propagation, Stop};
 use order_sets::tables::{put, size};
 use std::alloc::{AllocError, Global};
 
-/// The number of places behind the literals of a clause up to which readers are looked at first.
+/// The number of places behind the literals of a clause up to which readers are looked at first. To look at the whole log for each clause can
+/// take more steps than the walks took.
 const NEAR: u32 = 40;
 
 /// The most looks at the same readers, as long as something new comes of each.

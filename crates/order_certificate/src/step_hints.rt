@@ -9,7 +9,8 @@ use order_sets::tables::{at, size};
 use std::alloc::AllocError;
 
 impl Explanation {
-    /// Derives the clause of these literals by all that was asked, from the first pair on. Returns its step.
+    /// Derives the clause of these literals by all that was asked, from the first pair on: in the order of times each hint is unit when its turn
+    /// comes. Returns its step.
     pub(crate) fn derive(
         &mut self,
         order: &Propagation<'_>,

@@ -126,7 +126,8 @@ impl StuckHeads {
         low < order.sources().high(number, run) && writer.place < self.front(writer.process)
     }
 
-    /// Chooses a small set, grown from one stuck process. Returns whether there is one.
+    /// Chooses a small set, grown from one stuck process. Returns whether there is one. It is small since the line names each member and
+    /// what that one rests on.
     fn choose_set(&mut self, alloc: Global, order: &Propagation<'_>) -> Result<bool, AllocError> {
         let mut smallest = NOBODY;
         let mut best = NOBODY;

@@ -4,12 +4,12 @@ use numbered_log::NOBODY;
 use order_sets::tables::{at, put, size};
 use std::alloc::{AllocError, Global};
 
-/// The readers that wait: all of a round in the order of their estimated places, and between them those that wait again.
+/// The readers that wait: all of a round in the order of their estimated places, so that most have their turn when what stands before them is
+/// known, and between them those that wait again.
 pub struct Agenda {
     waits: Vec<bool>,
     /// The readers of the round.
     round: Vec<u32>,
-    /// The number of them that were reached.
     reached: u32,
     /// For each reader its place in the round, or `NOBODY`.
     places: Vec<u32>,
@@ -79,7 +79,6 @@ impl Agenda {
         put(self.waits.as_mut_slice(), reader, true);
     }
 
-    /// Returns whether the reader waits.
     #[inline(always)]
     pub fn waits(&self, reader: u32) -> bool {
         at(self.waits.as_slice(), reader, false)

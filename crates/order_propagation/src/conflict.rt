@@ -6,7 +6,6 @@ use std::alloc::AllocError;
 /// The conflict in which propagation ended.
 #[derive(Clone, Copy)]
 pub enum Conflict {
-    /// None.
     None,
     /// The pair would be added, and its second operation stands before its first.
     Cycle(OrderedPair),
@@ -16,7 +15,7 @@ pub enum Conflict {
     NoSource(u32),
 }
 
-/// The reason why work ends before it is done.
+/// The reason why work ends before it is done. It stands as an error, so that a `?` leaves all rules that are at work.
 #[derive(Clone, Copy)]
 pub enum Stop {
     OutOfMemory,

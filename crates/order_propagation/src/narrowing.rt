@@ -33,7 +33,7 @@ impl<'a> Propagation<'a> {
     }
 
     /// Finds for each process its last access of the reader's location that stands before the reader and is no read of its value: what
-    /// stands before that access is hidden.
+    /// stands before that access is hidden. One of each process is enough, since an earlier one hides nothing more.
     fn find_hiders(&mut self, reader: u32) -> Result<(), AllocError> {
         let operation = self.log.operation(reader);
         self.hiders.clear();

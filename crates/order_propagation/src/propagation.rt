@@ -24,7 +24,8 @@ const NO_LEVEL: DecisionLevel = DecisionLevel {
     pairs: NOBODY,
 };
 
-/// A point of the trail without decisions, to which it can be cut. The rows then have to be made anew.
+/// A point of the trail without decisions, to which it can be cut. The rows then have to be made anew, since their changes are kept only
+/// while decisions stand.
 #[derive(Clone, Copy)]
 pub struct TrailMark {
     losses: u32,
@@ -206,13 +207,11 @@ impl<'a> Propagation<'a> {
         self.pairs.add(first, second, reason, (self.now, level))
     }
 
-    /// The log.
     #[inline(always)]
     pub fn log(&self) -> &'a NumberedLog {
         self.log
     }
 
-    /// The possible sources.
     #[inline(always)]
     pub fn sources(&self) -> &SourceIntervals {
         &self.sources
@@ -230,13 +229,11 @@ impl<'a> Propagation<'a> {
         &self.readers
     }
 
-    /// The rows.
     #[inline(always)]
     pub fn rows(&self) -> &ClosedRows {
         &self.rows
     }
 
-    /// The pairs.
     pub fn pairs(&self) -> &OrderedPairs {
         &self.pairs
     }

@@ -18,6 +18,7 @@ impl<'a> Propagation<'a> {
         if reader >= self.log.count() {
             return self.look_at_final(reader);
         }
+        // If an only source is hidden or comes too late, what follows of it closes a cycle, so it is not looked for here.
         if self.sources.count(reader) != 1 {
             self.narrow(reader)?;
         }

@@ -8,7 +8,7 @@ use std::alloc::{AllocError, Global};
 
 impl PlacingWalk {
     /// Finds the smallest set of processes whose next operations are each behind the next operation of another of them, or read only what these
-    /// processes have still to write. Asks why that is so. Returns whether there is one.
+    /// processes have still to write: fewer reasons make a shorter clause. Asks why that is so. Returns whether there is one.
     pub(crate) fn ask_closed_set(
         &mut self,
         alloc: Global,

@@ -18,7 +18,7 @@ pub(crate) struct PlacedMemory {
     fronts: Vec<u32>,
     /// For each location the operation that has written it last, or `NOBODY`.
     held: Vec<u32>,
-    /// For each placed operation that writes the one that its location held before.
+    /// For each placed operation that writes the one that its location held before, so that it is taken back without a search.
     held_before: Vec<u32>,
     /// For each reading operation its source, if it has one only.
     sources: Vec<u32>,
@@ -26,7 +26,7 @@ pub(crate) struct PlacedMemory {
     unread: Vec<u32>,
     /// The same for the initial value of each location.
     unread_initial: Vec<u32>,
-    /// The reading operations that had several sources when the walk began.
+    /// The reading operations that had several sources when the walk began: only what these read can change.
     open: Vec<u32>,
     spare: SpareValues,
 }

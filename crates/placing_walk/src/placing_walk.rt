@@ -8,7 +8,6 @@ use order_propagation::Propagation;
 use order_sets::tables::{at, put};
 use std::alloc::{AllocError, Global};
 
-/// The end of a walk.
 #[derive(Clone, Copy, PartialEq, Eq)]
 pub enum WalkEnding {
     /// All operations are placed, and the final values are as they have to be.
@@ -34,7 +33,7 @@ pub struct PlacingWalk {
     pub(crate) memory: PlacedMemory,
     /// For each process what its next operation waits for, as it was last seen.
     pub(crate) awaited: Vec<Awaited>,
-    /// For each process whether that has to be seen anew.
+    /// For each process whether that has to be seen anew: an operation that is placed concerns few of them.
     is_changed: Vec<bool>,
     /// For each operation its estimated place.
     pub(crate) estimates: Vec<u32>,
@@ -42,7 +41,7 @@ pub struct PlacingWalk {
     pub(crate) learning: Learning,
     /// For each decision the number of operations that were placed.
     pub(crate) decided_at: Vec<u32>,
-    /// The number of pairs whose order the placed operations are known to have.
+    /// The number of pairs whose order the placed operations are known to have, so that only newer ones are looked at.
     pub(crate) heeded: u32,
     /// The processes of a set that is closed.
     pub(crate) is_in_set: Vec<bool>,
@@ -106,7 +105,6 @@ impl PlacingWalk {
         })
     }
 
-    /// The operations that are placed.
     pub fn placed(&self) -> &[u32] {
         self.memory.placed.as_slice()
     }
@@ -116,7 +114,6 @@ impl PlacingWalk {
         self.most_placed
     }
 
-    /// The number of conflicts.
     pub fn conflicts(&self) -> u32 {
         self.conflicts
     }

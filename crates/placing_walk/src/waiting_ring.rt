@@ -156,6 +156,7 @@ impl PlacingWalk {
     /// The process of a writer that is not placed and may be the source of this reader, or the reader's own.
     fn writer_for(&self, order: &Propagation<'_>, reader: u32, process: u32) -> u32 {
         let runs = order.sources().intervals(reader);
+        // Each time another run comes first, or the same ring would be found again and again.
         let turn = self.stuck;
         for number in 0..runs {
             let mut run = number;

@@ -14,7 +14,7 @@ pub struct HidingAccesses {
     begins: Vec<u32>,
     places: Vec<u32>,
     /// For each entry that is a plain read the place of the nearest access before it that is no read of its value, or 0; of a writer its
-    /// own place.
+    /// own place. So reads of one value in a row are passed in one look.
     others_before: Vec<u32>,
     /// The same of the nearest one behind it, or `FAR`.
     others_behind: Vec<u32>,
@@ -130,7 +130,8 @@ impl HidingAccesses {
         at(self.values.as_slice(), entry, None)
     }
 
-    /// The first entry, from one up to another, that has this place or a later one, or the end.
+    /// The first entry, from one up to another, that has this place or a later one, or the end. Entries are numbered by 32 bits, so 32
+    /// halvings are enough.
     #[inline(always)]
     fn first_from(&self, begin: u32, end: u32, place: u32) -> u32 {
         let mut low = begin;

@@ -34,6 +34,7 @@ impl ReaderClasses {
             begins: vec![in alloc; 0; classes.count().wrapping_add(2) as usize]?,
             readers: vec![in alloc; NOBODY; log.count() as usize]?,
         };
+        // They are counted two places further on: summed up, the entry one place on is where a class begins, and moves on while it is filled.
         for number in 0..log.count() {
             let class = class_read(log, classes, number);
             if class != NOBODY {
@@ -67,7 +68,6 @@ impl ReaderClasses {
         self.begin(class.wrapping_add(1))
     }
 
-    /// The reader at this position.
     #[inline(always)]
     pub fn reader(&self, position: u32) -> u32 {
         at(self.readers.as_slice(), position, NOBODY)

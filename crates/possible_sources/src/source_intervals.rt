@@ -20,7 +20,6 @@ pub enum LostBound {
     Initial,
 }
 
-/// The cause of a loss.
 #[derive(Clone, Copy)]
 pub struct LossCause {
     /// The writer that was lost and is nearest to what stays.
@@ -40,9 +39,9 @@ pub struct SourceLoss {
     pub cause: LossCause,
     /// The bound before.
     pub old_bound: u32,
-    /// The number of sources before.
+    /// The number of sources before, so that it is not counted again when the loss is taken back.
     old_count: u32,
-    /// The loss before this one at the same bound, or `NOBODY`.
+    /// The loss before this one at the same bound, or `NOBODY`. By these an explanation finds the bound as it was at an earlier time.
     pub previous: u32,
 }
 
@@ -62,7 +61,8 @@ const NO_LOSS: SourceLoss = SourceLoss {
 };
 
 /// For each reader, which is an operation or, behind all operations, the final value of a location, its possible sources: of each process
-/// that writes its value an interval of the positions of a run of writers, since rows rise along a process; and maybe the initial value.
+/// that writes its value an interval of the positions of a run of writers, since rows rise along a process; and maybe the initial value. So
+/// tables have an entry for each reader and process, and not for each source.
 pub struct SourceIntervals {
     operations: u32,
     /// For each reader where its intervals begin, and where all end.
@@ -208,7 +208,8 @@ impl SourceIntervals {
         }
     }
 
-    /// Leaves the reading operation of the writers of its own process the last one before it, and what its origin allows.
+    /// Leaves the reading operation of the writers of its own process the last one before it, and what its origin allows: that one hides
+    /// those before it, and the others come too late.
     fn narrow_by_program(
         &mut self,
         log: &NumberedLog,
@@ -330,7 +331,6 @@ impl SourceIntervals {
         at(self.classes.as_slice(), reader, NOBODY)
     }
 
-    /// The number of its intervals.
     #[inline(always)]
     pub fn intervals(&self, reader: u32) -> u32 {
         at(self.begins.as_slice(), reader.wrapping_add(1), 0).saturating_sub(at(
@@ -496,7 +496,6 @@ impl SourceIntervals {
         Ok(())
     }
 
-    /// The number of losses.
     pub fn losses(&self) -> u32 {
         size(self.losses.as_slice())
     }
@@ -546,7 +545,6 @@ impl SourceIntervals {
         at(self.initial_losses.as_slice(), reader, NOBODY)
     }
 
-    /// The loss of this number.
     #[inline(always)]
     pub fn loss(&self, number: u32) -> SourceLoss {
         at(self.losses.as_slice(), number, NO_LOSS)

@@ -10,7 +10,6 @@ impl Time {
     /// The time before all others.
     pub const START: Time = Time { count: 0 };
 
-    /// The next time.
     #[inline(always)]
     pub fn next(self) -> Time {
         Time {

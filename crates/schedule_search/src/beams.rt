@@ -25,7 +25,7 @@ fn beam(number: u32) -> Beam {
 }
 
 /// Searches the log with one beam after the other, within a third of the budget, if many of its operations are updates. Returns the schedule
-/// if there is one.
+/// if there is one. With half of the budget no more of 27 logs were scheduled that the survey does not decide.
 pub(crate) fn try_beams(
     alloc: Global,
     order: &mut Propagation<'_>,

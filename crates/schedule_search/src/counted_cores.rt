@@ -5,7 +5,8 @@ use order_sets::tables::{at, put, size};
 use possible_sources::ValueClasses;
 use std::alloc::{AllocError, Global};
 
-/// The updates of the class, and the last writers of its location, one for each process.
+/// The updates of the class, and the last writers of its location, one for each process: one of these is the last write, which takes a
+/// source too.
 pub(crate) fn takers_of_class(
     alloc: Global,
     log: &NumberedLog,

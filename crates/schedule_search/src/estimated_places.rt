@@ -21,7 +21,8 @@ fn share(whole: u32, part: u32, other: u32) -> u32 {
 }
 
 impl EstimatedPlaces {
-    /// The places if all processes run at the same pace, from the first operation to the last.
+    /// The places if all processes run at the same pace, from the first operation to the last. Before anything is known of the order, nothing
+    /// better can be said.
     pub(crate) fn of_equal_pace(
         alloc: Global,
         log: &NumberedLog,

@@ -13,7 +13,6 @@ use placing_walk::{Deciding, PlacingWalk, WalkEnding, has_many_updates};
 use source_counting::{Counted, count_sources, crowded_class};
 use std::alloc::{AllocError, Global};
 
-/// The end of a search.
 #[derive(Clone, Copy, PartialEq, Eq)]
 pub enum SearchEnding {
     /// There is a schedule.
@@ -24,7 +23,6 @@ pub enum SearchEnding {
     Unknown,
 }
 
-/// A window that stands.
 #[derive(Clone, Copy)]
 struct StandingWindow {
     mark: TrailMark,
@@ -76,7 +74,8 @@ const LAST_CLAUSES: u32 = 5;
 /// The same of the last walk.
 const MORE_CLAUSES: u32 = 20;
 
-/// Number of places from its front up to which a walk that decides always looks at readers, and the least if many operations are updates.
+/// Number of places from its front up to which a walk that decides always looks at readers, and the least if many operations are updates. So it
+/// comes to 2 to 3 times the conflicts for each look.
 const REACH: u32 = 20;
 
 const SHORT_REACH: u32 = 6;
@@ -93,7 +92,9 @@ fn reach_of(log: &NumberedLog) -> u32 {
     (IN_REACH / processes).max(SHORT_REACH).min(REACH)
 }
 
-/// The share of the budget that the first walk has which decides always, as a part of one.
+/// The share of the budget that the first walk has which decides always, as a part of one. It is small: of recorded logs of 2 to 8 values this
+/// walk decides few, and with a fourth of the budget it took nine tenths of the time of those that windows decide. What it decides with more,
+/// the last walk decides too.
 fn first_part(log: &NumberedLog) -> u64 {
     if has_many_updates(log) { 8 } else { 32 }
 }
@@ -577,7 +578,8 @@ pub(crate) fn keep_all_but(order: &mut Propagation<'_>, part: u64) -> Budget {
     rest
 }
 
-/// Leaves to the order three fourths of its budget, and returns the rest.
+/// Leaves to the order three fourths of its budget, and returns the rest, for the walk after the windows: what windows say rests on guesses, so
+/// they refute nothing.
 fn keep_a_fourth(order: &mut Propagation<'_>) -> Budget {
     let mut rest = order.budget();
     let steps = rest.left();

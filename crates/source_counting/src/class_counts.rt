@@ -1,4 +1,4 @@
-//! Counting by class, in one pass over the log.
+//! Counting by class, in one pass over the log. It comes before all else: a lock whose release is missing has no other small reason.
 
 use numbered_log::NumberedLog;
 use order_sets::tables::{at, put};

@@ -23,7 +23,8 @@ struct SourceAssignment {
     taken: Vec<u32>,
     /// For each source its taker, or `NOBODY`.
     taker: Vec<u32>,
-    /// For each position of a writer one behind which the next free one may stand, found anew as it is asked for.
+    /// For each position of a writer one behind which the next free one may stand, found anew as it is asked for, so that a long run of sources
+    /// that are taken is passed in few looks.
     free: Vec<u32>,
     /// For each source the turn in which it was seen last, and from which taker.
     turns: Vec<u32>,

@@ -60,7 +60,6 @@ impl LastInProcess {
         self.begin(location.wrapping_add(1))
     }
 
-    /// The writer at this position.
     pub(crate) fn writer(&self, position: u32) -> u32 {
         at(self.writers.as_slice(), position, NOBODY)
     }
