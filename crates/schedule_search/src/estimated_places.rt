@@ -9,6 +9,8 @@ use std::alloc::{AllocError, Global};
 #[derive(Drop)]
 pub(crate) struct EstimatedPlaces {
     places: Vec<u32>,
+    /// For each operation the last place where it may lie, if that is another one.
+    latest: Vec<u32>,
 }
 
 /// The share of a whole that a part has of another whole.
@@ -33,7 +35,7 @@ impl EstimatedPlaces {
             let length = log.length(operation.process);
             places.push(share(log.count(), operation.place, length))?;
         }
-        Ok(EstimatedPlaces { places })
+        Ok(EstimatedPlaces::of_places(alloc, places))
     }
 
     /// The places by the rows: in the middle between what must stand before the operation and what may.
@@ -51,32 +53,30 @@ impl EstimatedPlaces {
             last = last.max(order.rows().estimate(number) / 2);
             places.push(last)?;
         }
-        Ok(EstimatedPlaces { places })
+        Ok(EstimatedPlaces::of_places(alloc, places))
     }
 
-    /// The places by a hint, which may be wrong and name some operations alone: each operation that it names has its place there, and no
-    /// operation comes before the one before it in its process.
+    /// Each operation lies at its place.
+    fn of_places(alloc: Global, places: Vec<u32>) -> EstimatedPlaces {
+        EstimatedPlaces {
+            places,
+            latest: Vec::new(alloc),
+        }
+    }
+
+    /// The places by a hint, which may be wrong and name some operations alone: an operation lies between the places there of the ones before
+    /// and behind it in its process. A hint of a recorded run has operations in the order in which they began or ended, and where a thread was
+    /// halted in between, its operation may have come about anywhere until the next one.
     pub(crate) fn of_hint(
         alloc: Global,
         log: &NumberedLog,
         hint: &[u32],
     ) -> Result<EstimatedPlaces, AllocError> {
-        let mut places = vec![in alloc; 0; log.count() as usize]?;
-        let named = size(hint);
-        for place in 0..named {
-            let number = at(hint, place, 0);
-            let scaled = share(log.count(), place, named).saturating_add(1);
-            put(places.as_mut_slice(), number, scaled);
-        }
-        let mut last: u32 = 0;
-        for number in 0..log.count() {
-            if log.operation(number).place == 1 {
-                last = 0;
-            }
-            last = last.max(at(places.as_slice(), number, 0));
-            put(places.as_mut_slice(), number, last);
-        }
-        Ok(EstimatedPlaces { places })
+        let hinted = hinted_places(alloc, log, hint)?;
+        Ok(EstimatedPlaces {
+            places: places_before(alloc, log, hinted.as_slice())?,
+            latest: places_behind(alloc, log, hinted.as_slice())?,
+        })
     }
 
     /// The places, by operation.
@@ -84,9 +84,60 @@ impl EstimatedPlaces {
         self.places.as_slice()
     }
 
-    /// The place of the operation.
+    /// The place of the operation, or the first where it may lie.
     #[inline(always)]
     pub(crate) fn place(&self, number: u32) -> u32 {
         at(self.places.as_slice(), number, 0)
     }
+
+    /// The last place where the operation may lie.
+    #[inline(always)]
+    pub(crate) fn latest(&self, number: u32) -> u32 {
+        at(self.latest.as_slice(), number, self.place(number))
+    }
+}
+
+/// The place in the hint of each operation, from 1 on; 0 if it does not name it.
+fn hinted_places(alloc: Global, log: &NumberedLog, hint: &[u32]) -> Result<Vec<u32>, AllocError> {
+    let mut places = vec![in alloc; 0; log.count() as usize]?;
+    let named = size(hint);
+    for place in 0..named {
+        let scaled = share(log.count(), place, named).saturating_add(1);
+        put(places.as_mut_slice(), at(hint, place, 0), scaled);
+    }
+    Ok(places)
+}
+
+/// For each operation the largest place of those before it in its process.
+fn places_before(alloc: Global, log: &NumberedLog, hinted: &[u32]) -> Result<Vec<u32>, AllocError> {
+    let mut places = Vec::with_capacity(alloc, log.count() as usize)?;
+    let mut largest: u32 = 0;
+    for number in 0..log.count() {
+        if log.operation(number).place == 1 {
+            largest = 0;
+        }
+        places.push(largest)?;
+        largest = largest.max(at(hinted, number, 0));
+    }
+    Ok(places)
+}
+
+/// For each operation the least place of those behind it in its process.
+fn places_behind(alloc: Global, log: &NumberedLog, hinted: &[u32]) -> Result<Vec<u32>, AllocError> {
+    let count = log.count();
+    let mut places = vec![in alloc; count; count as usize]?;
+    let mut least = count;
+    for from_end in 1..count.wrapping_add(1) {
+        let number = count.wrapping_sub(from_end);
+        let operation = log.operation(number);
+        if operation.place == log.length(operation.process) {
+            least = count;
+        }
+        put(places.as_mut_slice(), number, least);
+        let place = at(hinted, number, 0);
+        if place != 0 {
+            least = least.min(place);
+        }
+    }
+    Ok(places)
 }

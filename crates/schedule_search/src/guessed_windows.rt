@@ -50,7 +50,7 @@ fn guess_between(
             break;
         }
         let first = log.number(processes.0, place);
-        let limit = places.place(first).saturating_add(sizes.0);
+        let limit = places.latest(first).saturating_add(sizes.0);
         for _ in behind..end {
             if places.place(log.number(processes.1, behind)) > limit {
                 break;
@@ -64,7 +64,7 @@ fn guess_between(
         let second = log.number(processes.1, behind);
         let next = log.number(processes.0, place);
         if place > log.length(processes.0)
-            || places.place(second) <= places.place(next).saturating_add(sizes.0)
+            || places.place(second) <= places.latest(next).saturating_add(sizes.0)
         {
             order.guess(first, second)?;
         }
