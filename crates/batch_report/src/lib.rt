@@ -1,4 +1,4 @@
-//! The engine that decides many traces, a line for each.
+//! The engine that decides many traces of one text, a line for each, in a plain form or as objects of JSON.
 #![tactic(auto)]
 
 mod batch_engine;

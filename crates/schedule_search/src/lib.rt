@@ -1,4 +1,4 @@
-//! Schedules by guesses: operations whose estimated places lie far apart stand in that order.
+//! A search for a schedule: walks, beams, and windows, which guess that operations whose estimated places lie far apart stand in that order.
 //!
 //! A guess may be wrong, so only schedules come of it, which the caller judges. Nothing is proved of it but that it is safe and comes to an
 //! end, and a look past the end of a table reads a fixed value.
