@@ -83,11 +83,11 @@ pub mod conflict_analysis;
 pub mod local_reads;
 pub mod numbered_log;
 pub mod order_propagation;
-pub mod order_sets;
 pub mod placing_walk;
 pub mod possible_sources;
 pub mod schedule_search;
 pub mod source_counting;
+pub mod total_tables;
 
 use kit::Global;
 use local_reads::ReducedLog;

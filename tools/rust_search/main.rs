@@ -8,12 +8,12 @@ mod local_reads;
 mod numbered_log;
 mod order_certificate;
 mod order_propagation;
-mod order_sets;
 mod placing_walk;
 mod possible_sources;
 mod schedule_search;
 mod shim;
 mod source_counting;
+mod total_tables;
 
 use local_reads::ReducedLog;
 use numbered_log::{Budget, NumberedLog, NumberedOrigin, Operation};

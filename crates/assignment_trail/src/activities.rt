@@ -1,7 +1,7 @@
 //! Decision order by exponential VSIDS (Moskewicz and others, "Chaff", 2001; Eén and Sörensson, "An extensible SAT-solver", 2003).
 
-use order_sets::tables::{at, put, size};
 use std::alloc::{AllocError, Global};
+use total_tables::{at, put, size};
 
 /// Activity past which all activities are rescaled.
 const RESCALE_LIMIT: f64 = 1e100;

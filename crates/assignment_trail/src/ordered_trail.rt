@@ -4,10 +4,10 @@ use crate::activities::Activities;
 use crate::candidates::Candidates;
 use crate::trail::Trail;
 use clause_database::{EncodingHints, ReadsFromTable, Reason, ReasonClause, Store};
-use order_sets::tables::at;
 use order_sets::{OrderMatrix, TripleIds};
 use proof_log::codes::NEVER;
 use std::alloc::{AllocError, Global};
+use total_tables::at;
 
 /// A trail, and the order that the hints describe. When a literal of the order becomes true, all that transitivity implies becomes true
 /// with it, so that its clauses never come into conflict and are never visited. (To close the order only when the literal is propagated

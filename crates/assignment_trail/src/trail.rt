@@ -1,9 +1,9 @@
 //! The trail: true literals in the order of their assignment.
 
 use clause_database::Reason;
-use order_sets::tables::{at, put};
 use proof_log::codes::NEVER;
 use std::alloc::{AllocError, Global};
+use total_tables::{at, put};
 
 // These are bits, so that one `|` of the values of two literals says whether one is false and none is true.
 

@@ -10,10 +10,10 @@ use crate::seen_states::SeenStates;
 use crate::state::State;
 use closed_rows::ClosedRows;
 use numbered_log::{Budget, NOBODY, NumberedLog, NumberedOrigin};
-use order_sets::tables::{at, put, size};
 use possible_sources::ValueClasses;
 use std::alloc::{AllocError, Global};
 use std::mem;
+use total_tables::{at, put, size};
 
 /// The most steps that are kept, one for each state of each layer.
 const MOST_STEPS: usize = 1 << 23;

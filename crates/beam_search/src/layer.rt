@@ -1,8 +1,8 @@
 //! The states of a layer.
 
 use crate::state::State;
-use order_sets::tables::{at, piece, put, size};
 use std::alloc::{AllocError, Global};
+use total_tables::{at, piece, put, size};
 
 /// States in all of which as many writers are placed, one behind the other in flat tables, so that a state takes no memory of its own.
 pub(crate) struct Layer {

@@ -2,8 +2,8 @@
 
 use crate::classed_log::ClassedLog;
 use numbered_log::{NOBODY, NumberedLog};
-use order_sets::tables::{at, put};
 use std::alloc::{AllocError, Global};
+use total_tables::{at, put};
 
 /// The most entries of the table. A log that needs more has no beams.
 const MOST_NEXT_WRITERS: u64 = 1 << 22;

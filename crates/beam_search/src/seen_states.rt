@@ -1,7 +1,7 @@
 //! The states that a layer has already.
 
-use order_sets::tables::{at, put};
 use std::alloc::{AllocError, Global};
+use total_tables::{at, put};
 
 /// A hash table of the mixed numbers of states. Those of earlier layers count as free slots, so that it needs not be cleared.
 pub(crate) struct SeenStates {

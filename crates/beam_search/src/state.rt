@@ -3,8 +3,8 @@
 use crate::classed_log::ClassedLog;
 use closed_rows::ClosedRows;
 use numbered_log::NOBODY;
-use order_sets::tables::{at, put, size};
 use std::alloc::{AllocError, Global};
+use total_tables::{at, put, size};
 
 /// The gain of each plain read, and of each update, that is placed.
 const READ: i64 = 20;

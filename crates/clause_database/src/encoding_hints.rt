@@ -1,8 +1,8 @@
 //! Hints about the structure of an encoding.
 
 use crate::reads_from::{ReadsFromTable, ReadsFromVariable};
-use order_sets::tables::size;
 use order_sets::{MAX_ELEMENTS, pair_count, transitivity_count, variable_of_pair};
+use total_tables::size;
 
 /// Hints of the caller of `solve` about the formula: which of its clauses are the transitivity of an order.
 ///

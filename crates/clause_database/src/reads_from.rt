@@ -1,8 +1,8 @@
 //! Hints about the reads-from variables of an encoding.
 
-use order_sets::tables::{at, put};
 use order_sets::{ElementSets, MAX_ELEMENTS};
 use std::alloc::{AllocError, Global};
+use total_tables::{at, put};
 
 /// Maximum number of reads-from variables that are tabled. Others are left to their clauses, so that no number that a caller names makes a
 /// table long.

@@ -1,7 +1,7 @@
 //! Reasons of literals, in a few words each: every literal that becomes true writes one, and only those of a conflict are read.
 
-use order_sets::tables::at;
 use proof_log::codes::NEVER;
+use total_tables::at;
 
 /// Reason (antecedent) of an assigned literal. It is kept as it was found; its clause is built only when conflict analysis asks for it.
 #[derive(Clone, Copy)]

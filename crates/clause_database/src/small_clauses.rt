@@ -1,8 +1,8 @@
 //! Occurrence lists of the clauses of two and three literals.
 
-use order_sets::tables::{at, piece, put};
 use proof_log::codes::NEVER;
 use std::alloc::{AllocError, Global};
+use total_tables::{at, piece, put};
 
 /// A clause of two or three literals, with its number. A clause of two has `NEVER` as its third.
 #[derive(Clone, Copy)]

@@ -2,8 +2,8 @@
 //! propagation one more load.
 
 use crate::reason::ReasonClause;
-use order_sets::tables::{at, piece, put, size};
 use std::alloc::{AllocError, Global};
+use total_tables::{at, piece, put, size};
 
 /// Words of the header before the literals of a clause: the number of literals, the id, the LBD, and the conflict of its last use.
 pub const HEADER: u32 = 4;

@@ -1,9 +1,9 @@
 //! Watch lists: which clauses are visited when a literal is falsified.
 
 use crate::store::Store;
-use order_sets::tables::{at, put, size};
 use std::alloc::{AllocError, Global};
 use std::mem;
+use total_tables::{at, put, size};
 
 /// A watch: the clause, and a blocking literal of it. If that one is true, the clause is satisfied and need not be read, which spares most
 /// loads of clause memory (Chu, Harwood and Stuckey, 2009).

@@ -1,8 +1,8 @@
 //! Rows of places.
 
 use numbered_log::NumberedLog;
-use order_sets::tables::{at, put, size};
 use std::alloc::{AllocError, Global};
+use total_tables::{at, put, size};
 
 /// A change of an entry of a row: its index in its table, and its value before.
 #[derive(Clone, Copy)]

@@ -1,9 +1,9 @@
 //! The pairs of which the first operation stands before the second, with their reasons.
 
 use numbered_log::NOBODY;
-use order_sets::tables::{at, put, size};
 use possible_sources::Time;
 use std::alloc::{AllocError, Global};
+use total_tables::{at, put, size};
 
 #[derive(Clone, Copy, PartialEq, Eq)]
 pub enum PairReason {

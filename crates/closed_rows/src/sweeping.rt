@@ -3,8 +3,8 @@
 use crate::closed_rows::ClosedRows;
 use crate::ordered_pairs::OrderedPairs;
 use numbered_log::{NOBODY, NumberedLog};
-use order_sets::tables::{at, put, size};
 use std::alloc::{AllocError, Global};
+use total_tables::{at, put, size};
 
 /// The result of two sweeps.
 #[derive(Clone, Copy, PartialEq, Eq)]

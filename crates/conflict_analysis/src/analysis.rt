@@ -7,9 +7,9 @@ use crate::way_search::{WayQuestion, WaySearch};
 use closed_rows::OrderedPair;
 use numbered_log::NOBODY;
 use order_propagation::{Conflict, Propagation};
-use order_sets::tables::{at, put, size};
 use possible_sources::Time;
 use std::alloc::{AllocError, Global};
+use total_tables::{at, put, size};
 
 /// The number of decisions to which a search goes back, and what then follows.
 #[derive(Clone, Copy)]

@@ -1,7 +1,7 @@
 //! What learned clauses rest on.
 
-use order_sets::tables::{at, piece, size};
 use std::alloc::{AllocError, Global};
+use total_tables::{at, piece, size};
 
 /// Lists, one behind the other in one table, since a walk may learn 200,000 clauses.
 pub(crate) struct GroundLists {

@@ -4,8 +4,8 @@ use crate::analysis::Analysis;
 use crate::learned_clauses::LearnedClauses;
 use crate::learning::Learning;
 use order_propagation::Propagation;
-use order_sets::tables::{at, put, size};
 use std::alloc::{AllocError, Global};
+use total_tables::{at, put, size};
 
 /// The operations that the conflict of propagation rests on, by rising numbers, if no walk has learned anything.
 pub fn core_of_conflict(

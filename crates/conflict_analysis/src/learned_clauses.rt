@@ -2,8 +2,8 @@
 
 use closed_rows::PairReason;
 use order_propagation::{Propagated, Propagation, Stop};
-use order_sets::tables::{at, piece, put, size};
 use std::alloc::{AllocError, Global};
+use total_tables::{at, piece, put, size};
 
 /// That the first operation stands before the second.
 #[derive(Clone, Copy)]

@@ -2,8 +2,8 @@
 
 use numbered_log::NOBODY;
 use order_propagation::Propagation;
-use order_sets::tables::{at, put, size};
 use std::alloc::{AllocError, Global};
+use total_tables::{at, put, size};
 
 /// The operations that stand behind no cycle: those before the next one of each process.
 struct PassedFronts {

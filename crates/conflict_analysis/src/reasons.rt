@@ -5,9 +5,9 @@ use crate::learned_clauses::LearnedClauses;
 use closed_rows::{OrderedPair, PairReason};
 use numbered_log::NOBODY;
 use order_propagation::Propagation;
-use order_sets::tables::{at, size};
 use possible_sources::Time;
 use std::alloc::AllocError;
+use total_tables::{at, size};
 
 impl Analysis {
     /// Asks why the pair was added.

@@ -2,9 +2,9 @@
 
 use numbered_log::NOBODY;
 use order_propagation::Propagation;
-use order_sets::tables::{at, put, size};
 use possible_sources::Time;
 use std::alloc::{AllocError, Global};
+use total_tables::{at, put, size};
 
 /// What is asked for: why the first operation stands before the second by pairs that are older than a time.
 #[derive(Clone, Copy)]

@@ -4,10 +4,10 @@
 use crate::elimination::{Elimination, Side};
 use crate::step_log::StepLog;
 use crate::units::UnitTable;
-use order_sets::tables::size;
 use proof_log::codes::NEVER;
 use source_matching::{MatchingInstance, OrderClauses, SourceCycle};
 use std::alloc::{AllocError, Global};
+use total_tables::size;
 
 /// Returns the operation of the reader.
 fn operation_of(reads: &MatchingInstance, reader: u32) -> u32 {

@@ -3,10 +3,10 @@
 
 use crate::step_log::StepLog;
 use order_sets::TripleIds;
-use order_sets::tables::{at, put, size};
 use proof_log::codes::NEVER;
 use source_matching::{Grid, OrderClauses};
 use std::alloc::{AllocError, Global};
+use total_tables::{at, put, size};
 
 /// On which side of an operation those others stand of which its clause speaks.
 #[derive(Clone, Copy)]

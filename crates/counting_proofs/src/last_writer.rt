@@ -3,9 +3,9 @@
 use crate::elimination::{Elimination, Side};
 use crate::step_log::StepLog;
 use crate::units::UnitTable;
-use order_sets::tables::{at, size};
 use source_matching::{KnownOrder, LastWriters, MatchingInstance, Reader};
 use std::alloc::{AllocError, Global};
+use total_tables::{at, size};
 
 /// The definition of each candidate: the code of the literal which says that it is the last writer, the first of the clauses which say that
 /// no other writer comes after it, and the clause which says that one does if it is not the last one.

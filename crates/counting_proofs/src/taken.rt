@@ -2,10 +2,10 @@
 
 use crate::proof_writer::{Definition, ProofWriter, add_ids};
 use crate::replay::ShortClause;
-use order_sets::tables::{at, put};
 use proof_log::codes::NEVER;
 use source_matching::{Grid, HallViolator, MatchingInstance};
 use std::alloc::{AllocError, Global};
+use total_tables::{at, put};
 
 /// For each reader and source a literal that says that one of the readers up to this one has the source, and the clause that says
 /// that this one has not if one before it has.

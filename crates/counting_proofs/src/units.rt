@@ -1,7 +1,7 @@
 //! Unit clauses that are cited.
 
-use order_sets::tables::{at, put, size};
 use std::alloc::{AllocError, Global};
+use total_tables::{at, put, size};
 
 /// For each literal the number of its unit clause, or 0.
 #[derive(Drop)]

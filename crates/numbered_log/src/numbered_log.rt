@@ -1,7 +1,7 @@
 //! A trace as numbers.
 
-use order_sets::tables::{at, put, size};
 use std::alloc::{AllocError, Global};
+use total_tables::{at, put, size};
 
 /// The number of no operation, and of an initial value where a source is named.
 pub const NOBODY: u32 = u32::MAX;

@@ -4,9 +4,9 @@ use crate::order_certificate::{LogNames, NamedPlace};
 use crate::reason_words::ReasonWord;
 use conflict_analysis::Literal;
 use itoa::Buffer;
-use order_sets::tables::at;
 use std::alloc::{AllocError, Global};
 use std::collections::HashMap;
+use total_tables::at;
 
 /// Two operations of two processes, the one of the first process first.
 #[derive(Clone, Copy, Debug, PartialEq, Eq, Hash)]

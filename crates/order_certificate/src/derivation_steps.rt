@@ -1,8 +1,8 @@
 //! Steps of a derivation.
 
 use conflict_analysis::Literal;
-use order_sets::tables::{at, piece, size};
 use std::alloc::{AllocError, Global};
+use total_tables::{at, piece, size};
 
 /// What a step follows from.
 #[derive(Clone, Copy, PartialEq, Eq)]

@@ -9,9 +9,9 @@ use crate::stuck_heads::StuckHeads;
 use conflict_analysis::{LearnedClauses, Literal, WayQuestion, WaySearch, pairs_of_cycle};
 use numbered_log::NOBODY;
 use order_propagation::{Conflict, Propagation};
-use order_sets::tables::{at, size};
 use possible_sources::Time;
 use std::alloc::{AllocError, Global};
+use total_tables::{at, size};
 
 /// What was derived: a pair, or the conflict if that is `NOBODY`. It follows from the facts at these places of the list by the clause of the
 /// hint, or by the facts alone.

@@ -1,8 +1,8 @@
 //! The hints of one step, each once.
 
 use crate::derivation_steps::DerivationHint;
-use order_sets::tables::{at, put, size};
 use std::alloc::{AllocError, Global};
+use total_tables::{at, put, size};
 
 /// The hints of the step at hand.
 pub(crate) struct HintList {

@@ -1,8 +1,8 @@
 //! The pairs that an explanation rests on.
 
 use numbered_log::NOBODY;
-use order_sets::tables::{at, put, size};
 use std::alloc::{AllocError, Global};
+use total_tables::{at, put, size};
 
 /// The pairs that are marked, and the steps that derive pairs of no decision.
 pub(crate) struct MarkedPairs {

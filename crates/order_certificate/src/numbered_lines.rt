@@ -2,8 +2,8 @@
 
 use crate::reason_words::ReasonWord;
 use numbered_log::NOBODY;
-use order_sets::tables::{at, piece, put, size};
 use std::alloc::{AllocError, Global};
+use total_tables::{at, piece, put, size};
 
 /// The most words of all lines, at 8 bytes each.
 const MOST_WORDS: u32 = 1 << 23;

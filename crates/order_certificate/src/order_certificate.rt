@@ -4,8 +4,8 @@ use crate::certificate_text::CertificateText;
 use crate::derivation_steps::DerivationHint;
 use crate::explanation::Explanation;
 use numbered_log::NOBODY;
-use order_sets::tables::{at, put, size};
 use std::alloc::{AllocError, Global};
+use total_tables::{at, put, size};
 
 /// The number of a process, and the place in it by which the trace names an operation.
 #[derive(Clone, Copy)]

@@ -2,9 +2,9 @@
 
 use conflict_analysis::WayQuestion;
 use numbered_log::NOBODY;
-use order_sets::tables::{at, put, size};
 use possible_sources::Time;
 use std::alloc::{AllocError, Global};
+use total_tables::{at, put, size};
 
 /// That the first operation of the question stands before the second, with the places of the pairs of a way among those of all ways, and the
 /// line of the cycle that says it, or `NOBODY`.

@@ -6,8 +6,8 @@ use closed_rows::{OrderedPair, PairReason};
 use conflict_analysis::LearnedClauses;
 use numbered_log::NOBODY;
 use order_propagation::Propagation;
-use order_sets::tables::{at, size};
 use std::alloc::AllocError;
+use total_tables::{at, size};
 
 impl Explanation {
     /// Returns whether nothing has to be derived of the pair: it was decided, or program order has it.

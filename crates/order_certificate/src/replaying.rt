@@ -7,8 +7,8 @@ use closed_rows::PairReason;
 use conflict_analysis::{LearnedClauses, Learning, Literal};
 use numbered_log::{Budget, NumberedLog};
 use order_propagation::{Propagated, Propagation, Stop};
-use order_sets::tables::{put, size};
 use std::alloc::{AllocError, Global};
+use total_tables::{put, size};
 
 /// The number of places behind the literals of a clause up to which readers are looked at first. To look at the whole log for each clause can
 /// take more steps than the walks took.

@@ -3,9 +3,9 @@
 use crate::explanation::Explanation;
 use numbered_log::{NOBODY, NumberedLog, NumberedOrigin};
 use order_propagation::Propagation;
-use order_sets::tables::at;
 use possible_sources::{LossCause, Time};
 use std::alloc::AllocError;
+use total_tables::at;
 
 /// The sources of an interval at a time: its bound then, and the cause of the last loss at that bound before it, if there is one.
 #[derive(Clone, Copy)]

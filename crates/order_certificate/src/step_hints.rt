@@ -5,8 +5,8 @@ use crate::explanation::{DerivedPair, Explanation, NOTHING_DERIVED};
 use conflict_analysis::Literal;
 use numbered_log::NOBODY;
 use order_propagation::Propagation;
-use order_sets::tables::{at, size};
 use std::alloc::AllocError;
+use total_tables::{at, size};
 
 impl Explanation {
     /// Derives the clause of these literals by all that was asked, from the first pair on: in the order of times each hint is unit when its turn

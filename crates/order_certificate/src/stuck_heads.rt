@@ -3,8 +3,8 @@
 use crate::explanation::Explanation;
 use numbered_log::NOBODY;
 use order_propagation::Propagation;
-use order_sets::tables::{at, put};
 use std::alloc::{AllocError, Global};
+use total_tables::{at, put};
 
 /// The next operation of each process after all that may be placed one after the other by the order and the possible sources alone. What is
 /// left by then is stuck, whatever was placed when.

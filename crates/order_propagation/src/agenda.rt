@@ -1,8 +1,8 @@
 //! The readers that wait for a look at them.
 
 use numbered_log::NOBODY;
-use order_sets::tables::{at, put, size};
 use std::alloc::{AllocError, Global};
+use total_tables::{at, put, size};
 
 /// The readers that wait: all of a round in the order of their estimated places, so that most have their turn when what stands before them is
 /// known, and between them those that wait again.

@@ -3,9 +3,9 @@
 use crate::conflict::{Conflict, Stop};
 use crate::propagation::Propagation;
 use numbered_log::NOBODY;
-use order_sets::tables::at;
 use possible_sources::LossCause;
 use std::alloc::AllocError;
+use total_tables::at;
 
 impl<'a> Propagation<'a> {
     /// Takes from the reading operation the sources that are hidden or stand after it.

@@ -5,9 +5,9 @@ use crate::conflict::{Conflict, Propagated, Stop};
 use crate::reach::Reach;
 use closed_rows::{ClosedRows, NO_PAIR, OrderedPair, OrderedPairs, PairReason};
 use numbered_log::{Budget, NOBODY, NumberedLog};
-use order_sets::tables::{at, put, size};
 use possible_sources::{HidingAccesses, ReaderClasses, SourceIntervals, Time, ValueClasses};
 use std::alloc::{AllocError, Global};
+use total_tables::{at, put, size};
 
 /// Lengths of the lists at the time of a decision, to which backtracking cuts them.
 #[derive(Clone, Copy)]

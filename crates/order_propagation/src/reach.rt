@@ -3,8 +3,8 @@
 use crate::propagation::Propagation;
 use closed_rows::RowEntry;
 use numbered_log::Operation;
-use order_sets::tables::{at, put, size};
 use std::alloc::{AllocError, Global};
+use total_tables::{at, put, size};
 
 /// For each process the place of its next operation, and how far from it readers are looked at while decisions stand. What lies far ahead
 /// says little of what comes next, and most decisions are taken back before it does.

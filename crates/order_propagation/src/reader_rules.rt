@@ -4,8 +4,8 @@ use crate::conflict::{Conflict, Stop};
 use crate::propagation::Propagation;
 use closed_rows::PairReason;
 use numbered_log::NOBODY;
-use order_sets::tables::{at, put};
 use std::alloc::AllocError;
+use total_tables::{at, put};
 
 /// A place behind all others.
 const FAR: u32 = u32::MAX;

@@ -2,7 +2,7 @@
 
 use crate::propagation::Propagation;
 use numbered_log::{NOBODY, Operation};
-use order_sets::tables::at;
+use total_tables::at;
 
 /// The number of readers of a class up to which all are looked at. Among more it is sooner to look for those that are concerned, by halves.
 const FEW_READERS: u32 = 24;

@@ -1,7 +1,7 @@
 //! Sets of a few hundred elements as bits. Closing an order goes over whole sets, so each further word makes every assignment slower.
 
-use crate::tables::{at, put};
 use std::alloc::{AllocError, Global};
+use total_tables::{at, put};
 
 /// Maximum number of elements of an order: a set is three words of 64 bits, enough for the 160 operations that a formula may have.
 pub const MAX_ELEMENTS: u32 = 192;

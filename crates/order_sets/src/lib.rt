@@ -7,7 +7,6 @@
 mod element_sets;
 mod order_matrix;
 mod order_numbers;
-pub mod tables;
 mod triple_ids;
 
 pub use element_sets::{ElementSets, MAX_ELEMENTS, next_element};

@@ -2,8 +2,8 @@
 
 use crate::element_sets::{ElementSets, MAX_ELEMENTS, next_element};
 use crate::order_numbers::{pair_count, pairs_below, variable_of_pair};
-use crate::tables::{at, piece, put};
 use std::alloc::{AllocError, Global};
+use total_tables::{at, piece, put};
 
 /// A literal of the order that follows, and the element over which it does: x(a,c) over b, from x(a,b) and x(b,c).
 #[derive(Clone, Copy)]

@@ -1,7 +1,7 @@
 //! The numbers of the clauses that say that an order is transitive.
 
-use crate::tables::{at, put};
 use std::alloc::{AllocError, Global};
+use total_tables::{at, put};
 
 /// The numbers of the clauses `-y(i,j) -y(j,k) y(i,k)` and `y(i,j) y(j,k) -y(i,k)`, for all i below j below k in lexicographic order. The
 /// encoding writes them in this order: with another one here each hint names a wrong clause.

@@ -4,7 +4,7 @@ use crate::placing_walk::{Deciding, PlacingWalk};
 use crate::waiting::Awaited;
 use numbered_log::Operation;
 use order_propagation::Propagation;
-use order_sets::tables::at;
+use total_tables::at;
 
 /// Operations of another process up to which one on the same location is looked for.
 const SIGHT: u32 = 12;

@@ -3,8 +3,8 @@
 use crate::placing_walk::PlacingWalk;
 use numbered_log::NOBODY;
 use order_propagation::Propagation;
-use order_sets::tables::{at, put};
 use std::alloc::{AllocError, Global};
+use total_tables::{at, put};
 
 impl PlacingWalk {
     /// Finds the smallest set of processes whose next operations are each behind the next operation of another of them, or read only what these

@@ -6,8 +6,8 @@ use closed_rows::PairReason;
 use conflict_analysis::Backjump;
 use numbered_log::NOBODY;
 use order_propagation::{Propagated, Propagation, Stop};
-use order_sets::tables::{at, size};
 use std::alloc::{AllocError, Global};
+use total_tables::{at, size};
 
 /// The most times that no operation can come next before a walk gives up.
 const MOST_STUCK: u32 = 20_000;

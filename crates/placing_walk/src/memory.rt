@@ -3,8 +3,8 @@
 use crate::spare_values::SpareValues;
 use numbered_log::{NOBODY, NumberedLog, Operation};
 use order_propagation::Propagation;
-use order_sets::tables::{at, put, size};
 use std::alloc::{AllocError, Global};
+use total_tables::{at, put, size};
 
 /// A source that is not known yet, as there are several.
 pub(crate) const UNKNOWN_SOURCE: u32 = NOBODY - 1;

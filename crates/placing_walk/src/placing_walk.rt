@@ -5,8 +5,8 @@ use crate::waiting::Awaited;
 use conflict_analysis::Learning;
 use numbered_log::{NOBODY, NumberedLog, Operation};
 use order_propagation::Propagation;
-use order_sets::tables::{at, put};
 use std::alloc::{AllocError, Global};
+use total_tables::{at, put};
 
 #[derive(Clone, Copy, PartialEq, Eq)]
 pub enum WalkEnding {

@@ -2,8 +2,8 @@
 
 use numbered_log::{NOBODY, NumberedLog};
 use order_propagation::Propagation;
-use order_sets::tables::{at, put};
 use std::alloc::{AllocError, Global};
+use total_tables::{at, put};
 
 /// For each class how many of its writes no update needs. Each write of a value is read by at most one update, and each update reads one, so
 /// a plain write that comes over a value costs that value a write. If no write of it can be spared, an update at the end has none to read.

@@ -4,8 +4,8 @@ use crate::placing_walk::PlacingWalk;
 use crate::waiting::Awaited;
 use numbered_log::{NOBODY, NumberedLog};
 use order_propagation::Propagation;
-use order_sets::tables::{at, put, size};
 use std::alloc::{AllocError, Global};
+use total_tables::{at, put, size};
 
 /// A process of a chain in which each waits for the next.
 #[derive(Clone, Copy)]

@@ -1,8 +1,8 @@
 //! The accesses of a location that can hide a source from a reader.
 
 use numbered_log::NumberedLog;
-use order_sets::tables::{at, put, sum_up};
 use std::alloc::{AllocError, Global};
+use total_tables::{at, put, sum_up};
 
 /// For each process and location the places of the accesses that can hide a source, rising: writers, and plain reads that have several
 /// possible sources. What such a read of another value reads was written in between. A plain read of one source hides no more than what

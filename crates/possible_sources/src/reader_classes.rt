@@ -2,8 +2,8 @@
 
 use crate::value_classes::ValueClasses;
 use numbered_log::{NOBODY, NumberedLog};
-use order_sets::tables::{at, put, sum_up};
 use std::alloc::{AllocError, Global};
+use total_tables::{at, put, sum_up};
 
 /// The reading operations of each class of writers, by rising numbers, so by process and place.
 #[derive(Drop)]

@@ -3,8 +3,8 @@
 use crate::time::Time;
 use crate::value_classes::ValueClasses;
 use numbered_log::{NOBODY, NumberedLog, NumberedOrigin, Operation};
-use order_sets::tables::{at, put, size};
 use std::alloc::{AllocError, Global};
+use total_tables::{at, put, size};
 
 /// The initial value in place of a writer.
 pub const INITIAL_VALUE: u32 = NOBODY;

@@ -6,9 +6,9 @@ use crate::codes::literal_of;
 use dimacs::Clause;
 use lrat_check::derivation::{Derivation, Step};
 use lrat_check::hints::Hints;
-use order_sets::tables::{at, piece, put, size};
 use std::alloc::{AllocError, Global};
 use std::marker::Model;
+use total_tables::{at, piece, put, size};
 
 /// The ends of an addition in the lists of literals and of hints.
 #[derive(Clone, Copy)]

@@ -1,9 +1,9 @@
 //! Cores of logs that are refuted by counting.
 
 use numbered_log::NumberedLog;
-use order_sets::tables::{at, put, size};
 use possible_sources::ValueClasses;
 use std::alloc::{AllocError, Global};
+use total_tables::{at, put, size};
 
 /// The updates of the class, and the last writers of its location, one for each process: one of these is the last write, which takes a
 /// source too.

@@ -2,8 +2,8 @@
 
 use numbered_log::NumberedLog;
 use order_propagation::Propagation;
-use order_sets::tables::{at, put, size};
 use std::alloc::{AllocError, Global};
+use total_tables::{at, put, size};
 
 /// For each operation its estimated place among all, rising along each process.
 #[derive(Drop)]

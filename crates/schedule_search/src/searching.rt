@@ -8,10 +8,10 @@ use crate::guessed_windows::guess_window;
 use conflict_analysis::{Learning, core_of_conflict};
 use numbered_log::{Budget, NumberedLog};
 use order_propagation::{Propagated, Propagation, TrailMark};
-use order_sets::tables::{at, size};
 use placing_walk::{Deciding, PlacingWalk, WalkEnding, has_many_updates};
 use source_counting::{Counted, count_sources, crowded_class};
 use std::alloc::{AllocError, Global};
+use total_tables::{at, size};
 
 #[derive(Clone, Copy, PartialEq, Eq)]
 pub enum SearchEnding {

@@ -3,8 +3,8 @@
 
 use crate::search::Search;
 use clause_database::ReasonClause;
-use order_sets::tables::{at, put};
 use std::alloc::AllocError;
+use total_tables::{at, put};
 
 /// Nothing is known of the variable.
 pub const UNSEEN: u8 = 0;

@@ -5,10 +5,10 @@ use crate::solving::{begin, search_begun, search_cube};
 use crate::whole::{CubeRefutation, WholeRefutation};
 use assignment_trail::Activities;
 use dimacs::Lit;
-use order_sets::tables::{at, put, size};
 use proof_log::codes::literal_of;
 use proof_log::{Answer, Attempt};
 use std::alloc::{AllocError, Global};
+use total_tables::{at, put, size};
 
 /// Conflicts of the search of the first cube. Without it some traces with a schedule in that cube took three times as long: the search of the
 /// formula itself comes upon the same cube first, but by another course, which took far more conflicts.

@@ -2,8 +2,8 @@
 
 use crate::analyze::{NEEDED, SEEN, UNSEEN};
 use crate::search::Search;
-use order_sets::tables::put;
 use std::alloc::AllocError;
+use total_tables::put;
 
 impl<'a> Search<'a> {
     /// Returns the true literal of an assigned variable. For one without a value the answer has no meaning.

@@ -3,8 +3,8 @@
 
 use crate::analyze::{NEEDED, REDUNDANT, UNSEEN};
 use crate::search::Search;
-use order_sets::tables::{at, put, size};
 use std::alloc::AllocError;
+use total_tables::{at, put, size};
 
 /// Bound on the antecedents that are visited for one literal. A literal that exceeds it is kept, so that minimisation stays cheap.
 const FUEL: u32 = 2000;

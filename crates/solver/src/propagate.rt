@@ -6,8 +6,8 @@ use assignment_trail::{FALSE, OPEN, OrderedTrail, TRUE};
 use clause_database::{
     HEADER, Others, Reason, ReasonClause, SmallClauses, Store, Watch, Watches, watch_at,
 };
-use order_sets::tables::{at, piece, put, size};
 use std::alloc::AllocError;
+use total_tables::{at, piece, put, size};
 
 /// The fate of a clause when one of its watched literals is falsified.
 #[derive(Clone, Copy)]

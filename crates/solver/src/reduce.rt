@@ -3,9 +3,9 @@
 use crate::search::Search;
 use assignment_trail::TRUE;
 use clause_database::{DROPPED, HEADER, Reason, Store};
-use order_sets::tables::{at, put, size};
 use std::alloc::AllocError;
 use std::mem;
+use total_tables::{at, put, size};
 
 /// Conflicts before the first reduction. Other numbers moved the mean of the conflicts by less than the choice of runs does.
 pub const FIRST_REDUCTION: u32 = 500;

@@ -2,9 +2,9 @@
 
 use assignment_trail::{FALSE, OrderedTrail};
 use clause_database::ReadsFromTable;
-use order_sets::tables::{at, put};
 use order_sets::{ElementSets, next_element};
 use std::alloc::{AllocError, Global};
+use total_tables::{at, put};
 
 /// Score of a plain read as the next element: it changes nothing, so it costs nothing to let it be next.
 const PLAIN_READ: u32 = 2000;

@@ -9,9 +9,9 @@ use clause_database::{
     EncodingHints, Reason, ReasonClause, SmallClause, SmallClauses, Store, Unit, Watches,
 };
 use dimacs::Lit;
-use order_sets::tables::{at, put, size};
 use proof_log::codes::{NEVER, code_of};
 use std::alloc::{AllocError, Global};
+use total_tables::{at, put, size};
 
 /// State of one search of one cube.
 pub struct Search<'a> {

@@ -6,8 +6,8 @@ use counting_proofs::{
     GreedyMatching, KnownOrder, MatchingInstance, Reader, ReadsFromEdge as Source, SourceSets,
     Update,
 };
-use order_sets::tables::{at, size};
 use std::alloc::{AllocError, Global};
+use total_tables::{at, size};
 
 /// Returns whether the reads-from variable is false.
 fn is_excluded(trail: &OrderedTrail<'_>, variable: u32) -> bool {

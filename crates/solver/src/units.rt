@@ -2,9 +2,9 @@
 
 use crate::analyze::{NEEDED, UNSEEN};
 use crate::search::Search;
-use order_sets::tables::{at, put};
 use proof_log::ProofLog;
 use std::alloc::{AllocError, Global};
+use total_tables::{at, put};
 
 /// Unit clauses that other steps cite.
 #[derive(Drop)]

@@ -2,9 +2,9 @@
 
 use clause_database::{EncodingHints, FormulaLoader, ReadsFromTable, SmallClause, Store};
 use order_sets::next_element;
-use order_sets::tables::{at, put, size};
 use proof_log::codes::NEVER;
 use std::alloc::{AllocError, Global};
+use total_tables::{at, put, size};
 
 /// Marks the variable as a decision variable.
 #[inline(always)]

@@ -1,9 +1,9 @@
 //! Counting by class, in one pass over the log. It comes before all else: a lock whose release is missing has no other small reason.
 
 use numbered_log::NumberedLog;
-use order_sets::tables::{at, put};
 use possible_sources::ValueClasses;
 use std::alloc::{AllocError, Global};
+use total_tables::{at, put};
 
 /// A class whose updates, and the last write of its location if it leaves the value of the class, are more than its writers and the initial
 /// value. Such a log has no legal schedule, whatever the order.

@@ -4,8 +4,8 @@ use crate::class_counts::takes_source;
 use crate::source_takers::{LastInProcess, initial_of, location_of};
 use numbered_log::NOBODY;
 use order_propagation::Propagation;
-use order_sets::tables::{at, put, size};
 use std::alloc::{AllocError, Global};
+use total_tables::{at, put, size};
 
 /// The result of counting.
 #[derive(Drop)]

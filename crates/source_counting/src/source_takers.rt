@@ -2,8 +2,8 @@
 
 use numbered_log::{NOBODY, NumberedLog};
 use order_propagation::Propagation;
-use order_sets::tables::{at, put, sum_up};
 use std::alloc::{AllocError, Global};
+use total_tables::{at, put, sum_up};
 
 /// The last writers of each location, one for each process.
 ///

@@ -7,8 +7,8 @@ use crate::last_writers::LastWriters;
 use crate::matching_instance::{MatchingInstance, Reader};
 use crate::source_cycle::SourceCycle;
 use crate::source_sets::SourceSets;
-use order_sets::tables::size;
 use std::alloc::{AllocError, Global};
+use total_tables::size;
 
 /// Why there is no legal schedule.
 #[derive(Drop)]

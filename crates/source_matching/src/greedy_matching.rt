@@ -3,9 +3,9 @@
 use crate::known_order::KnownOrder;
 use crate::last_writers::{location_word, may_be_last};
 use crate::source_cycle::{is_member, set_member};
-use order_sets::tables::{at, put, size};
 use order_sets::{ElementSets, next_element};
 use std::alloc::{AllocError, Global};
+use total_tables::{at, put, size};
 
 /// Updates, and the writers with which none of them is matched yet, as sets of elements.
 ///

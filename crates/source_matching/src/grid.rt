@@ -1,7 +1,7 @@
 //! Tables with rows and columns.
 
-use order_sets::tables::{at, put};
 use std::alloc::{AllocError, Global};
+use total_tables::{at, put};
 
 /// A table whose rows and columns are counted from 0. A place outside of it reads as the value with which it was filled, so callers need no
 /// case for the row before the first.

@@ -2,8 +2,8 @@
 
 use crate::grid::Grid;
 use crate::matching_instance::MatchingInstance;
-use order_sets::tables::{at, put, size};
 use std::alloc::{AllocError, Global};
+use total_tables::{at, put, size};
 
 /// A Hall violator (Hall, "On representatives of subsets", 1935): some readers, and their possible sources, of which there is one fewer.
 /// Both are counted from 1, as the counts of the derivation are.

@@ -4,8 +4,8 @@ use crate::known_order::KnownOrder;
 use crate::matching_instance::ReadsFromEdge;
 use crate::source_sets::SourceSets;
 use order_sets::next_element;
-use order_sets::tables::{at, put};
 use std::alloc::{AllocError, Global};
+use total_tables::{at, put};
 
 /// The writers of a location by rising numbers, and those of them that may be the last one. No update reads from the last one, so if the
 /// final value is not known, a reader may still be added, which has these as its sources. Without it a count misses the contradictions that

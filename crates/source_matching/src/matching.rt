@@ -3,8 +3,8 @@
 
 use crate::source_sets::SourceSets;
 use order_sets::next_element;
-use order_sets::tables::{at, put, size};
 use std::alloc::{AllocError, Global};
+use total_tables::{at, put, size};
 
 /// A matching of maximum size: readers with sources of their own.
 pub struct Matching {

@@ -1,7 +1,7 @@
 //! The matching instance of a formula: readers, sources, and the reads-from edges between them.
 
-use order_sets::tables::{at, size};
 use std::alloc::{AllocError, Global};
+use total_tables::{at, size};
 
 /// A read-modify-write.
 #[derive(Clone, Copy)]

@@ -2,8 +2,8 @@
 
 use crate::source_sets::SourceSets;
 use order_sets::next_element;
-use order_sets::tables::{at, put, size};
 use std::alloc::{AllocError, Global};
+use total_tables::{at, put, size};
 
 /// Updates whose possible sources are all among themselves, by numbers of readers. Following a source back from each never ends, so none of
 /// them can come first.

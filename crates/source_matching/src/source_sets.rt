@@ -2,8 +2,8 @@
 
 use crate::matching_instance::MatchingInstance;
 use order_sets::ElementSets;
-use order_sets::tables::{at, put, size};
 use std::alloc::{AllocError, Global};
+use total_tables::{at, put, size};
 
 /// For each reader the sources that are still possible, and a set for one more reader, which comes after all others.
 #[derive(Drop)]

@@ -5,8 +5,8 @@ use crate::given_order::GivenOrder;
 use crate::part::Chosen;
 use crate::shrinking::Core;
 use numbered_log::Budget;
-use order_sets::tables::at;
 use std::alloc::{AllocError, Global};
+use total_tables::at;
 
 /// Operations of a core that is small enough.
 pub const SMALL: u32 = 8;

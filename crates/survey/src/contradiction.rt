@@ -8,9 +8,9 @@ use crate::part::{Chosen, part_of};
 use conflict_analysis::core_of_conflict;
 use numbered_log::{Budget, NumberedLog};
 use order_propagation::{Propagated, Propagation};
-use order_sets::tables::at;
 use source_counting::crowded_class;
 use std::alloc::{AllocError, Global};
+use total_tables::at;
 
 /// Propagates the order of the part of the chosen operations. If that contradicts itself, gives the operations from which the contradiction follows, by
 /// their numbers in the whole trace. Gives `None` if propagation finds no contradiction, and also if the budget runs out before: then

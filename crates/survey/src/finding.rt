@@ -11,10 +11,10 @@ use crate::reading::{log_of, names_of, numbers_of_names};
 use crate::shrinking::Core;
 use numbered_log::{Budget, NumberedLog};
 use order_propagation::Propagation;
-use order_sets::tables::size;
 use schedule_search::{ScheduleSearch, SearchEnding};
 use std::alloc::{AllocError, Global};
 use surveyor::{Extent, Finding, Overview, Surveyor};
+use total_tables::size;
 use trace_semantics::operation::OpName;
 use trace_semantics::trace::Trace;
 

@@ -4,9 +4,9 @@
 
 use closed_rows::{ClosedRows, OrderedPairs, PairReason, Sweeps, close_rows};
 use numbered_log::{Budget, NOBODY, NumberedLog};
-use order_sets::tables::put;
 use possible_sources::{HidingAccesses, LossCause, SourceIntervals, Time, ValueClasses};
 use std::alloc::{AllocError, Global};
+use total_tables::put;
 
 /// The order, and the possible sources of readers by it.
 pub struct GivenOrder<'a> {

@@ -1,8 +1,8 @@
 //! A log without the reads that repeat what their process has just seen: they can follow it at once in each schedule, and say nothing new.
 
 use numbered_log::{NOBODY, NumberedLog, NumberedOrigin, NumberedPair, Operation};
-use order_sets::tables::{at, put, size};
 use std::alloc::{AllocError, Global};
+use total_tables::{at, put, size};
 
 /// A log without repeated local reads.
 pub struct ReducedLog {

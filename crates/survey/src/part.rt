@@ -4,8 +4,8 @@
 
 use crate::given_order::GivenOrder;
 use numbered_log::{Budget, NOBODY, NumberedLog, NumberedOrigin, NumberedPair, Operation};
-use order_sets::tables::{at, put, size};
 use std::alloc::{AllocError, Global};
+use total_tables::{at, put, size};
 
 /// Some of the operations of a log.
 #[derive(Drop)]

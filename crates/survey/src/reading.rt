@@ -3,8 +3,8 @@
 use crate::time_pairs::add_times;
 use numbered_log::{NOBODY, NumberedLog, NumberedOrigin, NumberedPair, Operation};
 use order_certificate::{LogNames, NamedPlace};
-use order_sets::tables::{at, size};
 use std::alloc::{AllocError, Global};
+use total_tables::{at, size};
 use trace_semantics::name::Name;
 use trace_semantics::name_table::NameTable;
 use trace_semantics::operation::{Op, OpName, Origin as Told};

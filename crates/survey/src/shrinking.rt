@@ -5,9 +5,9 @@ use crate::given_order::GivenOrder;
 use crate::part::{Chosen, LogPart, has_all_sources, part_of};
 use numbered_log::{Budget, NumberedOrigin};
 use order_propagation::Propagation;
-use order_sets::tables::{at, piece, size};
 use schedule_search::is_refuted_by_walk;
 use std::alloc::{AllocError, Global};
+use total_tables::{at, piece, size};
 
 /// A set of operations whose part has no legal schedule, which saturation or a walk has found.
 #[derive(Drop)]

@@ -3,8 +3,8 @@
 //! What follows from other pairs is left out, so that most operations have few.
 
 use numbered_log::{NumberedLog, NumberedPair};
-use order_sets::tables::{at, put, size};
 use std::alloc::{AllocError, Global};
+use total_tables::{at, put, size};
 use trace_semantics::trace::Trace;
 
 /// The most pairs of a log. A log of 64 processes that all go on at once has some 40 for each operation: in a large one those of its end are left

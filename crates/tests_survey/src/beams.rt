@@ -4,9 +4,9 @@ use crate::expectations::{ample, expect};
 use beam_search::{Beam, BeamEnding, BeamSearch};
 use closed_rows::ClosedRows;
 use numbered_log::{Budget, NumberedLog, NumberedOrigin, Operation};
-use order_sets::tables::{at, put, size};
 use possible_sources::ValueClasses;
 use std::alloc::{AllocError, Global};
+use total_tables::{at, put, size};
 
 /// The processes, the locations and the values of a drawn run.
 const PROCESSES: u32 = 4;

@@ -1,7 +1,7 @@
 //! Runs of processes with store buffers, each of one write, as traces.
 
-use order_sets::tables::{at, put};
 use std::alloc::{AllocError, Global};
+use total_tables::{at, put};
 
 /// The processes, and as many locations; and the values.
 const PROCESSES: u32 = 4;

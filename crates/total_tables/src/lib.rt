@@ -3,6 +3,7 @@
 //! A search promises nothing of what it finds, so no invariant says that its places are in range. A place past the end of a
 //! table reads as a value that the caller names, and a write there does nothing: such code is safe as it stands. For the same
 //! reason places are computed by arithmetic that wraps: an overflow is one more place past the end, and no panic.
+#![tactic(auto)]
 
 /// Returns the entry at this place, or the other value past the end.
 #[inline(always)]
