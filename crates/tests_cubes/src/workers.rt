@@ -1,0 +1,7 @@
+//! What workers share: the dealing machine, the stop word, the board, the search, and the ledger's checker.
+
+mod boards;
+mod confirmations;
+mod dealings;
+mod searches;
+mod stop_words;

@@ -1,0 +1,9 @@
+//! The engines: those that judge, translate, decode and check proofs, decide traces, check certificates and make parts.
+
+mod certified_verdicts;
+mod formula_engines;
+mod judging;
+mod part_rechecks;
+mod parts;
+mod rechecks;
+mod verdicts;

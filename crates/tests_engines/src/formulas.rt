@@ -1,0 +1,9 @@
+//! Formulas, models, derivations, the variables of a trace, and the guide of the search.
+
+mod clause_lists;
+mod decodings;
+mod derivations;
+mod formulas;
+mod guides;
+mod layouts;
+mod solver_texts;

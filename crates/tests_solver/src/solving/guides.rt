@@ -1,0 +1,79 @@
+//! Formulas with an order that the guide knows.
+
+use crate::expectations::ample;
+use crate::solving::formulas::{add, formula_of};
+use crate::solving::random_formulas::{Random, assert_solved};
+use dimacs::{Clause, Formula};
+use solver::EncodingHints;
+use std::alloc::{AllocError, Global};
+
+/// Four elements have six order variables. This says that an order of four is transitive.
+const TRANSITIVITY: [&[i32]; 8] = [
+    &[-1, -4, 2],
+    &[1, 4, -2],
+    &[-1, -5, 3],
+    &[1, 5, -3],
+    &[-2, -6, 3],
+    &[2, 6, -3],
+    &[-4, -6, 5],
+    &[4, 6, -5],
+];
+
+/// Some random clauses, the transitivity of an order of four, and more random clauses, over ten variables of which the first six
+/// are those of the order. How many clauses come first is reported too.
+fn random_order(alloc: Global, random: &mut Random) -> Result<(Formula, u32), AllocError> {
+    let mut clauses: Vec<Clause> = Vec::new(alloc);
+    let mut first: u32 = 1;
+    for _ in 0..random.next() % 3 {
+        add(
+            alloc,
+            &mut clauses,
+            &[random.literal(1, 6), random.literal(1, 10)],
+        )?;
+        first = first.wrapping_add(1);
+    }
+    for numbers in TRANSITIVITY {
+        add(alloc, &mut clauses, numbers)?;
+    }
+    for _ in 0..14 + random.next() % 14 {
+        let numbers = [
+            random.literal(7, 4),
+            random.literal(1, 6),
+            random.literal(1, 6),
+        ];
+        add(alloc, &mut clauses, &numbers)?;
+    }
+    for _ in 0..random.next() % 8 {
+        add(
+            alloc,
+            &mut clauses,
+            &[random.literal(1, 6), random.literal(7, 4)],
+        )?;
+    }
+    Ok((formula_of(alloc, 10, clauses), first))
+}
+
+#[test]
+fn solves_orders_with_and_without_a_guide(rt: HostRuntime) {
+    let alloc = rt.alloc();
+    let mut random = Random::new(3);
+    for _ in 0..200 {
+        let (formula, first) = ample(&rt, random_order(alloc, &mut random));
+        assert_solved(&rt, alloc, &formula, &[], EncodingHints::none());
+        assert_solved(
+            &rt,
+            alloc,
+            &formula,
+            &[],
+            EncodingHints::with_order(4, first),
+        );
+        let cube = [random.literal(1, 6), random.literal(1, 6)];
+        assert_solved(
+            &rt,
+            alloc,
+            &formula,
+            &cube,
+            EncodingHints::with_order(4, first),
+        );
+    }
+}

@@ -1,0 +1,134 @@
+//! What is reported with a hint: it is the answer if it is a legal schedule, and else it turns no verdict.
+
+use crate::expectations::{ample, expect};
+use crate::long_traces::lying_surveyors::{Liar, Lie};
+use crate::long_traces::traces::{HAND_OFF, STORE_BUFFERING, with_many_writes};
+use cube_jobs::{OpenGate, Options};
+use dimacs::MemorySink;
+use schedule_text::schedule_fault::ScheduleCause;
+use std::alloc::Global;
+use std::process::Abort;
+use std::sync::Wait;
+use std::thread::Threads;
+use survey::BySaturation;
+use survey_report::run_survey;
+use surveyor::Surveyor;
+use trace_text::trace_fault::TraceCause;
+use verdict_report::{Fault, ShortSource, Status};
+
+/// What is answered, and reported.
+#[derive(Drop)]
+struct Answered {
+    outcome: Result<Status, Fault>,
+    report: MemorySink,
+}
+
+/// Gives the answer on the trace with this hint, and with the help of the surveyor.
+fn answer_with<R: Threads + Wait + Abort + Sync, S: Surveyor>(
+    alloc: Global,
+    rt: &R,
+    trace: &str,
+    hint: &str,
+    surveyor: &S,
+) -> Answered {
+    let options = ample(rt, Options::new(1, 0, 10_000, 1));
+    let mut source = ShortSource::new(trace.as_bytes(), 99);
+    let mut hinted = ShortSource::new(hint.as_bytes(), 3);
+    let mut report = MemorySink::new(alloc);
+    let outcome = run_survey(
+        alloc,
+        rt,
+        &mut source,
+        &mut hinted,
+        surveyor,
+        &options,
+        &OpenGate,
+        &mut report,
+    );
+    Answered { outcome, report }
+}
+
+/// Asserts that this is answered and reported, in the case of this number.
+fn assert_is(
+    rt: &impl Abort,
+    found: &Answered,
+    outcome: Result<Status, Fault>,
+    report: &[u8],
+    number: usize,
+) {
+    expect(rt, found.outcome == outcome, number);
+    expect(rt, found.report.as_slice() == report, number);
+}
+
+/// Two writes, each of a process of its own, to two locations: both orders are legal.
+const APART: &str = "vsc 1\nproc P\nW x 1\nproc Q\nW y 1\n";
+
+// The hint is the answer as it stands, before the surveyor is asked.
+#[test]
+fn answers_a_legal_hint(rt: HostRuntime) {
+    let liar = Liar {
+        lie: Lie::Schedule(1, 2),
+        otherwise: Lie::Nothing,
+    };
+    let found = answer_with(rt.alloc(), &rt, APART, "P.1\nQ.1\n", &liar);
+    assert_is(&rt, &found, Ok(Status::Yes), b"CONSISTENT\nP.1\nQ.1\n", 1);
+    let found = answer_with(rt.alloc(), &rt, APART, "# as recorded\nQ.1\n\nP.1", &liar);
+    assert_is(&rt, &found, Ok(Status::Yes), b"CONSISTENT\nQ.1\nP.1\n", 2);
+}
+
+// Hints of no name, of some names, of all in a wrong order, of one twice, and of operations that are not there.
+#[test]
+fn a_wrong_hint_turns_no_verdict(rt: HostRuntime) {
+    let hints = [
+        "",
+        "Q.1\n",
+        "Q.2\nQ.1\nP.2\nP.1\n",
+        "P.1\nP.1\nQ.1\nQ.1\n",
+        "P.9\nX.1\nP.1\n",
+    ];
+    let survey = BySaturation { budget: 1_000_000 };
+    for hint in hints {
+        let core = b"INCONSISTENT operations=4 cubes=1\nP.1\nP.2\nQ.1\nQ.2\n";
+        let found = answer_with(rt.alloc(), &rt, STORE_BUFFERING, hint, &survey);
+        assert_is(&rt, &found, Ok(Status::No), core, 3);
+        let found = answer_with(rt.alloc(), &rt, HAND_OFF, hint, &survey);
+        assert_is(&rt, &found, Ok(Status::Yes), b"CONSISTENT\nP.1\nQ.1\n", 4);
+    }
+}
+
+/// The operations of the long hand-off, in a legal order.
+fn long_hint(alloc: Global, rt: &impl Abort) -> String {
+    let mut hint = String::new(alloc);
+    ample(rt, hint.push_str("P.1\nQ.1\n"));
+    for place in 1..=200u32 {
+        let line = ample(rt, format!(in alloc; "R.{place}\n"));
+        ample(rt, hint.push_str(line.as_str()));
+    }
+    hint
+}
+
+// A survey that may take no step decides nothing of a long trace, but with a legal hint it has nothing to do.
+#[test]
+fn a_legal_hint_needs_no_step(rt: HostRuntime) {
+    let survey = BySaturation { budget: 0 };
+    let long = ample(&rt, with_many_writes(rt.alloc(), HAND_OFF));
+    let found = answer_with(rt.alloc(), &rt, long.as_str(), "", &survey);
+    expect(&rt, found.outcome == Ok(Status::Unknown), 5);
+    let hint = long_hint(rt.alloc(), &rt);
+    let found = answer_with(rt.alloc(), &rt, long.as_str(), hint.as_str(), &survey);
+    expect(&rt, found.outcome == Ok(Status::Yes), 6);
+    let schedule = found.report.as_slice().strip_prefix(b"CONSISTENT\n");
+    expect(&rt, schedule.unwrap_or(b"") == hint.as_bytes(), 6);
+}
+
+// The trace's fault comes first.
+#[test]
+fn refuses_a_faulty_hint(rt: HostRuntime) {
+    let survey = BySaturation { budget: 0 };
+    let fault = Fault::Schedule(ScheduleCause::BadNumber, 2);
+    let found = answer_with(rt.alloc(), &rt, HAND_OFF, "P.1\nQ.0\n", &survey);
+    assert_is(&rt, &found, Err(fault), b"", 7);
+    let fault = Fault::Trace(TraceCause::Header, 1);
+    let found = answer_with(rt.alloc(), &rt, "vsc 9\n", "P.1\nQ.0\n", &survey);
+    assert_is(&rt, &found, Err(fault), b"", 8);
+}
