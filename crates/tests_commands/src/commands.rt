@@ -376,18 +376,30 @@ fn answers_device_if_no_file_can_be_made(rt: HostRuntime) {
     );
 }
 
-/// Asserts that the survey of the command line refutes its trace, and leaves a text that begins so in the last file that is given back.
+/// Asserts that a survey which writes the file of this option refutes its trace, and leaves a text that begins so in the last file that is
+/// given back.
 fn assert_surveys<R: Threads + Wait + Abort + Sync>(
     alloc: Global,
     rt: &R,
-    words: &[&str],
+    option: &str,
     begin: &str,
 ) {
+    let words = [
+        "vsc",
+        "survey",
+        "unread",
+        "--budget",
+        "7000",
+        "--workers",
+        "2",
+        option,
+        "made",
+    ];
     let mut host = MemoryHost::new(alloc, &FILES, 100);
     let mut out = ShortSink::new(alloc, 100);
     let mut err = ShortSink::new(alloc, 100);
     let status = run(
-        alloc, rt, &OpenGate, &mut host, words, false, &mut out, &mut err,
+        alloc, rt, &OpenGate, &mut host, &words, false, &mut out, &mut err,
     );
     assert!(rt; status == 1);
     assert!(rt;
@@ -409,40 +421,7 @@ fn assert_surveys<R: Threads + Wait + Abort + Sync>(
 
 #[test]
 fn surveys_and_writes_the_files(rt: HostRuntime) {
-    let words = [
-        "vsc",
-        "survey",
-        "unread",
-        "--budget",
-        "7000",
-        "--workers",
-        "2",
-        "--cert",
-        "made",
-    ];
-    assert_surveys(rt.alloc(), &rt, &words, "vsc-cert 1\n");
-    let words = [
-        "vsc",
-        "survey",
-        "unread",
-        "--budget",
-        "7000",
-        "--workers",
-        "2",
-        "--names",
-        "made",
-    ];
-    assert_surveys(rt.alloc(), &rt, &words, "P.1\n");
-    let words = [
-        "vsc",
-        "survey",
-        "unread",
-        "--budget",
-        "7000",
-        "--workers",
-        "2",
-        "--part",
-        "made",
-    ];
-    assert_surveys(rt.alloc(), &rt, &words, "vsc 1\n");
+    assert_surveys(rt.alloc(), &rt, "--cert", "vsc-cert 1\n");
+    assert_surveys(rt.alloc(), &rt, "--names", "P.1\n");
+    assert_surveys(rt.alloc(), &rt, "--part", "vsc 1\n");
 }

@@ -1,8 +1,10 @@
 //! The engine that decides long traces: with the survey of this program, and with surveyors that lie.
 
+mod answers;
 mod beams;
 mod buffered_runs;
 mod certified_surveys;
+mod drawn_numbers;
 mod failing_devices;
 mod hints;
 mod lying_surveyors;

@@ -139,6 +139,12 @@ fn assert_gathers<R: Wait + Abort>(rt: &R, board: &Board, seat: &mut CollectorSe
     assert!(rt; matches!(settled.outcome(), Outcome::Open));
 }
 
+/// Asserts how many jobs were put and taken, and how many results given and gathered.
+fn assert_counts(rt: &impl Abort, account: &Account, wanted: [u32; 4]) {
+    let counts = [account.put, account.taken, account.given, account.gathered];
+    assert!(rt; counts == wanted);
+}
+
 #[test]
 fn settles_each_job_once(rt: HostRuntime) -> Result<(), Fail> {
     let alloc = rt.alloc();
@@ -156,10 +162,7 @@ fn settles_each_job_once(rt: HostRuntime) -> Result<(), Fail> {
     assert_gathers(&rt, &board, &mut collector, 1);
     assert_gathers(&rt, &board, &mut collector, 0);
     let account = close_for_two(alloc, &rt, board, dealer, first, second, collector)?;
-    assert!(rt; account.put == 2);
-    assert!(rt; account.taken == 2);
-    assert!(rt; account.given == 2);
-    assert!(rt; account.gathered == 2);
+    assert_counts(&rt, &account, [2, 2, 2, 2]);
     Ok(())
 }
 
@@ -185,10 +188,7 @@ fn counts_what_is_left(rt: HostRuntime) -> Result<(), Fail> {
         Job::new(alloc, 0, &[]).settle(Outcome::Open),
     );
     let account = close_for_two(alloc, &rt, board, dealer, first, second, collector)?;
-    assert!(rt; account.put == 2);
-    assert!(rt; account.taken == 1);
-    assert!(rt; account.given == 1);
-    assert!(rt; account.gathered == 0);
+    assert_counts(&rt, &account, [2, 1, 1, 0]);
     Ok(())
 }
 
@@ -223,9 +223,6 @@ fn settles_jobs_in_two_threads(rt: HostRuntime) -> Result<(), Fail> {
         move || work(alloc, handle, shared, second),
     );
     let account = close_for_two(alloc, &rt, board, dealer, first, second, collector)?;
-    assert!(rt; account.put == 2);
-    assert!(rt; account.taken == 2);
-    assert!(rt; account.given == 2);
-    assert!(rt; account.gathered == 0);
+    assert_counts(&rt, &account, [2, 2, 2, 0]);
     Ok(())
 }

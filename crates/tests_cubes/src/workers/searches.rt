@@ -200,10 +200,10 @@ fn are_of_written_again(results: &[Settled], first: u32, last: u32) -> bool {
     are_of_eight_leaves(results)
 }
 
-/// Returns whether the verdict is the model of leaf 2.
-fn is_model_of_leaf_2(verdict: &Verdict) -> bool {
+/// Returns whether the verdict is the model of this leaf.
+fn is_model_of(verdict: &Verdict, of: u32) -> bool {
     match verdict {
-        Verdict::Consistent(leaf, truth) => *leaf == 2 && has_values(truth, true, false, true),
+        Verdict::Consistent(leaf, truth) => *leaf == of && has_values(truth, true, false, true),
         Verdict::Inconsistent(_) => false,
         Verdict::Unknown(_) => false,
     }
@@ -224,15 +224,6 @@ fn is_second_skipped(results: &[Settled]) -> bool {
         }
     }
     results.len() == 2 && first && second
-}
-
-/// Returns whether the verdict is the model of leaf 0.
-fn is_model_of_leaf_0(verdict: &Verdict) -> bool {
-    match verdict {
-        Verdict::Consistent(leaf, truth) => *leaf == 0 && has_values(truth, true, false, true),
-        Verdict::Inconsistent(_) => false,
-        Verdict::Unknown(_) => false,
-    }
 }
 
 /// Returns whether the results are those of the eight leaves, and each leaf is refuted.
@@ -279,7 +270,7 @@ fn assert_finds_leaf_2<R: Threads + Wait + Abort + Sync, G: Gate + Sync>(
     let are_right = are_of_written_again(results.as_slice(), first, last);
     assert!(rt; are_right, "{workers} workers");
     let verdict = verdict_of(alloc, rt, &formula, tree, results);
-    assert!(rt; is_model_of_leaf_2(&verdict), "{workers} workers");
+    assert!(rt; is_model_of(&verdict, 2), "{workers} workers");
 }
 
 /// The number of workers, the last of the cubes that are held from the first one on, and the cube that is awaited.
@@ -338,5 +329,5 @@ fn skips_the_second_of_two_leaves_after_a_model_in_the_first(rt: HostRuntime) {
     assert!(&rt; !gate.gave_up.load(Ordering::SeqCst));
     assert!(&rt; is_second_skipped(results.as_slice()));
     let verdict = verdict_of(alloc, &rt, &formula, &tree, results);
-    assert!(&rt; is_model_of_leaf_0(&verdict));
+    assert!(&rt; is_model_of(&verdict, 0));
 }

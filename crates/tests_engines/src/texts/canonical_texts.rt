@@ -116,24 +116,37 @@ fn writes_4096_operations_and_pairs(rt: HostRuntime) {
     assert_written(&rt, rt.alloc(), text.as_str(), text.as_str());
 }
 
+/// Asserts that a text of this head, and of lines that have these words before and after a number from `first` to `last`, is written as it is.
+fn assert_written_of(
+    rt: &impl Abort,
+    alloc: Global,
+    head: &str,
+    words: [&str; 2],
+    first: u32,
+    last: u32,
+) {
+    let [before, after] = words;
+    let mut text = ample(rt, String::from_str(alloc, head));
+    for number in first..=last {
+        push_line(
+            rt,
+            &mut text,
+            format!(in alloc; "{before}{number}{after}\n"),
+        );
+    }
+    assert_written(rt, alloc, text.as_str(), text.as_str());
+}
+
 #[test]
 fn writes_version_3_of_4097_operations(rt: HostRuntime) {
-    let alloc = rt.alloc();
-    let mut text = ample(&rt, String::from_str(alloc, "vsc 3\nproc P\n"));
-    for number in 1..=4097u32 {
-        push_line(&rt, &mut text, format!(in alloc; "W x {number}\n"));
-    }
-    assert_written(&rt, alloc, text.as_str(), text.as_str());
+    let head = "vsc 3\nproc P\n";
+    assert_written_of(&rt, rt.alloc(), head, ["W x ", ""], 1, 4097);
 }
 
 #[test]
 fn writes_version_3_of_4097_locations(rt: HostRuntime) {
-    let alloc = rt.alloc();
-    let mut text = ample(&rt, String::from_str(alloc, "vsc 3\n"));
-    for number in 1000..=5096u32 {
-        push_line(&rt, &mut text, format!(in alloc; "init a{number} 0\n"));
-    }
-    assert_written(&rt, alloc, text.as_str(), text.as_str());
+    let words = ["init a", " 0"];
+    assert_written_of(&rt, rt.alloc(), "vsc 3\n", words, 1000, 5096);
 }
 
 /// The name of these bytes.

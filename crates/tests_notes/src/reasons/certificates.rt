@@ -206,28 +206,32 @@ fn assert_line_refused(
     assert_checked(rt, alloc, trace_text, &text, wanted, number);
 }
 
+/// Asserts so of each of these lines.
+fn assert_lines_refused(
+    rt: &impl Abort,
+    alloc: Global,
+    trace_text: &str,
+    refused: &[(&str, ReasonCause)],
+) {
+    for k in 0..refused.len() {
+        let (line, cause) = refused[k];
+        assert_line_refused(rt, alloc, trace_text, line, cause, k);
+    }
+}
+
 #[test]
 fn ends_and_waiting_are_refused(rt: HostRuntime) {
-    for k in 0..REFUSED_ENDS.len() {
-        let (line, cause) = REFUSED_ENDS[k];
-        assert_line_refused(&rt, rt.alloc(), LATE_READ, line, cause, k);
-    }
+    assert_lines_refused(&rt, rt.alloc(), LATE_READ, &REFUSED_ENDS);
 }
 
 #[test]
 fn counts_are_refused(rt: HostRuntime) {
-    for k in 0..REFUSED_COUNTS.len() {
-        let (line, cause) = REFUSED_COUNTS[k];
-        assert_line_refused(&rt, rt.alloc(), UNENDED_TURN, line, cause, k);
-    }
+    assert_lines_refused(&rt, rt.alloc(), UNENDED_TURN, &REFUSED_COUNTS);
 }
 
 #[test]
 fn times_are_refused(rt: HostRuntime) {
-    for k in 0..REFUSED_TIMES.len() {
-        let (line, cause) = REFUSED_TIMES[k];
-        assert_line_refused(&rt, rt.alloc(), LATE_START, line, cause, k);
-    }
+    assert_lines_refused(&rt, rt.alloc(), LATE_START, &REFUSED_TIMES);
 }
 
 #[test]

@@ -1,26 +1,14 @@
 //! Formulas with an order that the guide knows.
 
 use crate::expectations::ample;
-use crate::solving::formulas::{add, formula_of};
+use crate::solving::formulas::{STORE_BUFFERING, add, formula_of};
 use crate::solving::random_formulas::{Random, assert_solved};
 use dimacs::{Clause, Formula};
 use solver::EncodingHints;
 use std::alloc::{AllocError, Global};
 
-/// Four elements have six order variables. This says that an order of four is transitive.
-const TRANSITIVITY: [&[i32]; 8] = [
-    &[-1, -4, 2],
-    &[1, 4, -2],
-    &[-1, -5, 3],
-    &[1, 5, -3],
-    &[-2, -6, 3],
-    &[2, 6, -3],
-    &[-4, -6, 5],
-    &[4, 6, -5],
-];
-
 /// Some random clauses, the transitivity of an order of four, and more random clauses, over ten variables of which the first six
-/// are those of the order. How many clauses come first is reported too.
+/// are those of the order. How many clauses come first is reported too. Transitivity has the clauses 3 to 10 of store buffering.
 fn random_order(alloc: Global, random: &mut Random) -> Result<(Formula, u32), AllocError> {
     let mut clauses: Vec<Clause> = Vec::new(alloc);
     let mut first: u32 = 1;
@@ -32,8 +20,8 @@ fn random_order(alloc: Global, random: &mut Random) -> Result<(Formula, u32), Al
         )?;
         first = first.wrapping_add(1);
     }
-    for numbers in TRANSITIVITY {
-        add(alloc, &mut clauses, numbers)?;
+    for numbers in &STORE_BUFFERING[2..10] {
+        add(alloc, &mut clauses, *numbers)?;
     }
     for _ in 0..14 + random.next() % 14 {
         let numbers = [

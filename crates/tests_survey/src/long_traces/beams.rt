@@ -1,6 +1,7 @@
 //! Beam searches of logs of many updates, drawn from runs: what is found is a legal schedule.
 
 use crate::expectations::{ample, expect};
+use crate::long_traces::drawn_numbers::DrawnNumbers;
 use beam_search::{Beam, BeamEnding, BeamSearch};
 use closed_rows::ClosedRows;
 use numbered_log::{Budget, NumberedLog, NumberedOrigin, Operation};
@@ -37,30 +38,8 @@ fn beam_of(width: u32) -> Beam {
     }
 }
 
-/// Numbers that are drawn.
-#[derive(Clone, Copy)]
-struct Random {
-    state: u64,
-}
-
-impl Random {
-    /// The next number below the limit.
-    fn below(&mut self, limit: u64) -> u64 {
-        self.state = self
-            .state
-            .wrapping_mul(0x5851_f42d_4c95_7f2d)
-            .wrapping_add(0x1405_7b7e_f767_814f);
-        (self.state >> 33) % limit.max(1)
-    }
-
-    /// The next number below the limit, which is small.
-    fn small(&mut self, limit: u32) -> u32 {
-        (self.below(limit as u64) & 0xffff_ffff) as u32
-    }
-}
-
 /// The next operation of a run in which memory holds this. It is taken over.
-fn drawn_operation(random: &mut Random, memory: &mut Vec<u64>) -> Operation {
+fn drawn_operation(random: &mut DrawnNumbers, memory: &mut Vec<u64>) -> Operation {
     let process = random.small(PROCESSES);
     let location = random.small(LOCATIONS);
     let held = at(memory.as_slice(), location, 0);
@@ -82,7 +61,7 @@ fn drawn_operation(random: &mut Random, memory: &mut Vec<u64>) -> Operation {
 
 /// The log of a run of this many operations, and of its final values.
 fn drawn_log(alloc: Global, seed: u64, count: u32) -> Result<NumberedLog, AllocError> {
-    let mut random = Random { state: seed };
+    let mut random = DrawnNumbers::new(seed);
     let mut memory = vec![in alloc; 0; LOCATIONS as usize]?;
     let mut run = Vec::new(alloc);
     for _ in 0..count {

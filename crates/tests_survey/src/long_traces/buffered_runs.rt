@@ -1,5 +1,6 @@
 //! Runs of processes with store buffers, each of one write, as traces.
 
+use crate::long_traces::drawn_numbers::DrawnNumbers;
 use std::alloc::{AllocError, Global};
 use total_tables::{at, put};
 
@@ -35,22 +36,13 @@ struct DrawnOperation {
 /// The part of a run that was drawn.
 #[derive(Drop)]
 struct BufferedRun {
-    state: u64,
+    drawn: DrawnNumbers,
     memory: Vec<u32>,
     /// For each process its last write.
     buffers: Vec<BufferedWrite>,
 }
 
 impl BufferedRun {
-    /// The next number below the limit.
-    fn below(&mut self, limit: u64) -> u32 {
-        self.state = self
-            .state
-            .wrapping_mul(0x5851_f42d_4c95_7f2d)
-            .wrapping_add(0x1405_7b7e_f767_814f);
-        (((self.state >> 33) % limit.max(1)) & 0xffff_ffff) as u32
-    }
-
     /// Has the memory take over what the process has written.
     fn flush(&mut self, process: u32) {
         let write = at(self.buffers.as_slice(), process, NO_WRITE);
@@ -62,11 +54,11 @@ impl BufferedRun {
 
     /// Draws the next operation.
     fn draw(&mut self) -> DrawnOperation {
-        let process = self.below(PROCESSES as u64);
-        let location = self.below(PROCESSES as u64);
-        let keeps = self.below(2) == 0;
-        let drawn = self.below(VALUES as u64);
-        let reads = self.below(2) == 0;
+        let process = self.drawn.small(PROCESSES);
+        let location = self.drawn.small(PROCESSES);
+        let keeps = self.drawn.small(2) == 0;
+        let drawn = self.drawn.small(VALUES);
+        let reads = self.drawn.small(2) == 0;
         if !keeps || !reads {
             self.flush(process);
         }
@@ -110,7 +102,7 @@ fn push_process(
     process: u32,
 ) -> Result<(), AllocError> {
     let mut run = BufferedRun {
-        state: seed,
+        drawn: DrawnNumbers::new(seed),
         memory: vec![in alloc; 0; PROCESSES as usize]?,
         buffers: vec![in alloc; NO_WRITE; PROCESSES as usize]?,
     };

@@ -1,31 +1,22 @@
 //! What a survey writes beside its report: the certificate, the names of a core, and its part.
 
 use crate::expectations::{ample, expect};
+use crate::long_traces::answers::{Written, texts_of};
 use crate::long_traces::lying_surveyors::{Liar, Lie};
 use crate::long_traces::traces::{
-    HAND_OFF, after_many_writes, counted_lock, no_hint, ring, with_many_writes,
+    HAND_OFF, after_many_writes, counted_lock, ring, with_many_writes,
 };
-use cube_jobs::{OpenGate, Options};
 use dimacs::MemorySink;
 use std::alloc::Global;
 use std::process::Abort;
 use std::sync::Wait;
 use std::thread::Threads;
 use survey::BySaturation;
-use survey_report::run_certified_survey;
 use surveyor::Surveyor;
 use verdict_report::{ShortSource, Status, run_recheck};
 
-/// What the sinks of the certificate, of the names and of the part took.
-#[derive(Drop)]
-struct Written {
-    certificate: MemorySink,
-    names: MemorySink,
-    part: MemorySink,
-}
-
 /// Gives what is written of the trace with the help of the surveyor, if it is decided with this status, in the case of this number.
-fn texts_of<R: Threads + Wait + Abort + Sync, S: Surveyor>(
+fn written_of<R: Threads + Wait + Abort + Sync, S: Surveyor>(
     alloc: Global,
     rt: &R,
     trace: &str,
@@ -33,32 +24,9 @@ fn texts_of<R: Threads + Wait + Abort + Sync, S: Surveyor>(
     status: Status,
     number: usize,
 ) -> Written {
-    let options = ample(rt, Options::new(1, 0, 10_000, 1));
-    let mut source = ShortSource::new(trace.as_bytes(), 99);
-    let mut hint = no_hint();
-    let mut certificate = MemorySink::new(alloc);
-    let mut names = MemorySink::new(alloc);
-    let mut part = MemorySink::new(alloc);
-    let mut output = MemorySink::new(alloc);
-    let outcome = run_certified_survey(
-        alloc,
-        rt,
-        &mut source,
-        &mut hint,
-        surveyor,
-        &options,
-        &OpenGate,
-        &mut certificate,
-        &mut names,
-        &mut part,
-        &mut output,
-    );
-    expect(rt, outcome == Ok(status), number);
-    Written {
-        certificate,
-        names,
-        part,
-    }
+    let found = texts_of(alloc, rt, trace, surveyor);
+    expect(rt, found.outcome == Ok(status), number);
+    found
 }
 
 /// Asserts that the certificate is accepted for the trace, in the case of this number.
@@ -75,7 +43,7 @@ fn assert_accepts(alloc: Global, rt: &impl Abort, trace: &[u8], certificate: &[u
 fn certifies_the_part_of_a_core(rt: HostRuntime) {
     let survey = BySaturation { budget: 1_000_000 };
     let long = ample(&rt, after_many_writes(rt.alloc()));
-    let found = texts_of(rt.alloc(), &rt, long.as_str(), &survey, Status::No, 11);
+    let found = written_of(rt.alloc(), &rt, long.as_str(), &survey, Status::No, 11);
     let names: &[u8] = b"P.201\nP.202\nQ.1\nQ.2\n";
     expect(&rt, found.names.as_slice() == names, 11);
     let part: &[u8] =
@@ -99,7 +67,7 @@ fn certifies_the_whole_without_a_core(rt: HostRuntime) {
         lie: Lie::Core(1, 2),
         otherwise: Lie::Nothing,
     };
-    let found = texts_of(rt.alloc(), &rt, BACK, &liar, Status::No, 14);
+    let found = written_of(rt.alloc(), &rt, BACK, &liar, Status::No, 14);
     expect(&rt, found.names.as_slice().is_empty(), 14);
     expect(&rt, found.part.as_slice().is_empty(), 14);
     assert_accepts(
@@ -116,7 +84,7 @@ fn certifies_the_whole_without_a_core(rt: HostRuntime) {
 fn certifies_the_whole_by_reasons(rt: HostRuntime) {
     let survey = BySaturation { budget: 20_000_000 };
     let trace = ample(&rt, ring(rt.alloc()));
-    let found = texts_of(rt.alloc(), &rt, trace.as_str(), &survey, Status::No, 18);
+    let found = written_of(rt.alloc(), &rt, trace.as_str(), &survey, Status::No, 18);
     let header: &[u8] = b"vsc-reasons 1\n";
     expect(&rt, found.certificate.as_slice().starts_with(header), 18);
     expect(&rt, found.names.as_slice().is_empty(), 18);
@@ -142,10 +110,10 @@ fn assert_silent(rt: &impl Abort, found: &Written, number: usize) {
 fn writes_the_report_alone_with_another_answer(rt: HostRuntime) {
     let survey = BySaturation { budget: 1_000_000 };
     let long = ample(&rt, with_many_writes(rt.alloc(), HAND_OFF));
-    let found = texts_of(rt.alloc(), &rt, long.as_str(), &survey, Status::Yes, 16);
+    let found = written_of(rt.alloc(), &rt, long.as_str(), &survey, Status::Yes, 16);
     assert_silent(&rt, &found, 16);
     let lock = ample(&rt, counted_lock(rt.alloc()));
     let none = BySaturation { budget: 0 };
-    let found = texts_of(rt.alloc(), &rt, lock.as_str(), &none, Status::Unknown, 17);
+    let found = written_of(rt.alloc(), &rt, lock.as_str(), &none, Status::Unknown, 17);
     assert_silent(&rt, &found, 17);
 }

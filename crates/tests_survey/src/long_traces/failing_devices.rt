@@ -1,6 +1,7 @@
 //! Surveys over a source that hands out a byte a call and sinks that take a byte a call, of which one fails at one of its calls.
 
 use crate::expectations::{ample, expect};
+use crate::long_traces::answers::texts_of;
 use crate::long_traces::traces::{STORE_BUFFERING, no_hint};
 use cube_jobs::{OpenGate, Options};
 use dimacs::{MemorySink, ShortSink};
@@ -129,31 +130,78 @@ fn assert_certified_cut_off<R: Threads + Wait + Abort + Sync>(
 
 /// The certificate that is written where nothing fails. `certified_surveys` has it checked.
 fn whole_certificate<R: Threads + Wait + Abort + Sync>(alloc: Global, rt: &R) -> MemorySink {
-    let options = ample(rt, Options::new(1, 0, 10_000, 1));
-    let mut trace = store_buffering();
-    let mut hint = no_hint();
-    let mut certificate = MemorySink::new(alloc);
-    let mut names = sink(alloc);
-    let mut part = sink(alloc);
-    let mut report = sink(alloc);
-    let outcome = run_certified_survey(
-        alloc,
-        rt,
-        &mut trace,
-        &mut hint,
-        &SURVEY,
-        &options,
-        &OpenGate,
-        &mut certificate,
-        &mut names,
-        &mut part,
-        &mut report,
-    );
-    expect(rt, outcome == Ok(Status::No), 0);
-    expect(rt, names.as_slice() == NAMES, 0);
-    expect(rt, part.as_slice() == PART, 0);
-    expect(rt, report.as_slice() == REPORT, 0);
-    certificate
+    let found = texts_of(alloc, rt, STORE_BUFFERING, &SURVEY);
+    expect(rt, found.outcome == Ok(Status::No), 0);
+    expect(rt, found.names.as_slice() == NAMES, 0);
+    expect(rt, found.part.as_slice() == PART, 0);
+    expect(rt, found.report.as_slice() == REPORT, 0);
+    found.certificate
+}
+
+/// The places of the sinks, in the order in which they take their texts.
+const CERTIFICATE_SINK: usize = 0;
+
+const NAMES_SINK: usize = 1;
+
+const PART_SINK: usize = 2;
+
+const REPORT_SINK: usize = 3;
+
+/// The number of bytes that the sink of this place takes of a text of this length, if the one of the place `failing` fails after `count`
+/// bytes: all before that one, and nothing behind it.
+fn taken_at(place: usize, length: usize, failing: usize, count: usize) -> usize {
+    if place < failing {
+        length
+    } else if place == failing {
+        count
+    } else {
+        0
+    }
+}
+
+/// The sink of this place, which fails after `count` bytes if it is the one that fails.
+fn sink_at(alloc: Global, place: usize, failing: usize, count: usize) -> ShortSink {
+    if place == failing {
+        sink_failing_after(alloc, count)
+    } else {
+        sink(alloc)
+    }
+}
+
+/// Asserts how many bytes the sinks take where the one of this place fails after `count` bytes, and this is the whole certificate.
+fn assert_front<R: Threads + Wait + Abort + Sync>(
+    alloc: Global,
+    rt: &R,
+    whole: &[u8],
+    failing: usize,
+    count: usize,
+) {
+    let sinks = Sinks {
+        certificate: sink_at(alloc, CERTIFICATE_SINK, failing, count),
+        names: sink_at(alloc, NAMES_SINK, failing, count),
+        part: sink_at(alloc, PART_SINK, failing, count),
+        report: sink_at(alloc, REPORT_SINK, failing, count),
+    };
+    let taken = [
+        taken_at(CERTIFICATE_SINK, whole.len(), failing, count),
+        taken_at(NAMES_SINK, NAMES.len(), failing, count),
+        taken_at(PART_SINK, PART.len(), failing, count),
+        taken_at(REPORT_SINK, REPORT.len(), failing, count),
+    ];
+    assert_certified_cut_off(alloc, rt, store_buffering(), sinks, whole, taken, count);
+}
+
+/// Asserts so of each count below the length of the text of the sink of this place.
+fn assert_fronts<R: Threads + Wait + Abort + Sync>(
+    alloc: Global,
+    rt: &R,
+    failing: usize,
+    length: usize,
+) {
+    let certificate = whole_certificate(alloc, rt);
+    for count in 0..length {
+        assert_front(alloc, rt, certificate.as_slice(), failing, count);
+    }
 }
 
 #[test]
@@ -208,68 +256,21 @@ fn writes_nothing_if_the_hint_fails(rt: HostRuntime) {
 
 #[test]
 fn writes_a_prefix_of_the_certificate_alone_if_its_sink_fails(rt: HostRuntime) {
-    let alloc = rt.alloc();
-    let certificate = whole_certificate(alloc, &rt);
-    let whole = certificate.as_slice();
-    for count in 0..whole.len() {
-        let sinks = Sinks {
-            certificate: sink_failing_after(alloc, count),
-            names: sink(alloc),
-            part: sink(alloc),
-            report: sink(alloc),
-        };
-        let taken = [count, 0, 0, 0];
-        assert_certified_cut_off(alloc, &rt, store_buffering(), sinks, whole, taken, count);
-    }
+    let length = whole_certificate(rt.alloc(), &rt).as_slice().len();
+    assert_fronts(rt.alloc(), &rt, CERTIFICATE_SINK, length);
 }
 
 #[test]
 fn writes_a_prefix_of_the_names_after_the_certificate(rt: HostRuntime) {
-    let alloc = rt.alloc();
-    let certificate = whole_certificate(alloc, &rt);
-    let whole = certificate.as_slice();
-    for count in 0..NAMES.len() {
-        let sinks = Sinks {
-            certificate: sink(alloc),
-            names: sink_failing_after(alloc, count),
-            part: sink(alloc),
-            report: sink(alloc),
-        };
-        let taken = [whole.len(), count, 0, 0];
-        assert_certified_cut_off(alloc, &rt, store_buffering(), sinks, whole, taken, count);
-    }
+    assert_fronts(rt.alloc(), &rt, NAMES_SINK, NAMES.len());
 }
 
 #[test]
 fn writes_a_prefix_of_the_part_after_the_names(rt: HostRuntime) {
-    let alloc = rt.alloc();
-    let certificate = whole_certificate(alloc, &rt);
-    let whole = certificate.as_slice();
-    for count in 0..PART.len() {
-        let sinks = Sinks {
-            certificate: sink(alloc),
-            names: sink(alloc),
-            part: sink_failing_after(alloc, count),
-            report: sink(alloc),
-        };
-        let taken = [whole.len(), NAMES.len(), count, 0];
-        assert_certified_cut_off(alloc, &rt, store_buffering(), sinks, whole, taken, count);
-    }
+    assert_fronts(rt.alloc(), &rt, PART_SINK, PART.len());
 }
 
 #[test]
 fn writes_a_prefix_of_the_report_after_the_part(rt: HostRuntime) {
-    let alloc = rt.alloc();
-    let certificate = whole_certificate(alloc, &rt);
-    let whole = certificate.as_slice();
-    for count in 0..REPORT.len() {
-        let sinks = Sinks {
-            certificate: sink(alloc),
-            names: sink(alloc),
-            part: sink(alloc),
-            report: sink_failing_after(alloc, count),
-        };
-        let taken = [whole.len(), NAMES.len(), PART.len(), count];
-        assert_certified_cut_off(alloc, &rt, store_buffering(), sinks, whole, taken, count);
-    }
+    assert_fronts(rt.alloc(), &rt, REPORT_SINK, REPORT.len());
 }

@@ -1,52 +1,15 @@
 //! What is reported with a hint: it is the answer if it is a legal schedule, and else it turns no verdict.
 
 use crate::expectations::{ample, expect};
+use crate::long_traces::answers::{Answered, answer_with};
 use crate::long_traces::lying_surveyors::{Liar, Lie};
 use crate::long_traces::traces::{HAND_OFF, STORE_BUFFERING, with_many_writes};
-use cube_jobs::{OpenGate, Options};
-use dimacs::MemorySink;
 use schedule_text::schedule_fault::ScheduleCause;
 use std::alloc::Global;
 use std::process::Abort;
-use std::sync::Wait;
-use std::thread::Threads;
 use survey::BySaturation;
-use survey_report::run_survey;
-use surveyor::Surveyor;
 use trace_text::trace_fault::TraceCause;
-use verdict_report::{Fault, ShortSource, Status};
-
-/// What is answered, and reported.
-#[derive(Drop)]
-struct Answered {
-    outcome: Result<Status, Fault>,
-    report: MemorySink,
-}
-
-/// Gives the answer on the trace with this hint, and with the help of the surveyor.
-fn answer_with<R: Threads + Wait + Abort + Sync, S: Surveyor>(
-    alloc: Global,
-    rt: &R,
-    trace: &str,
-    hint: &str,
-    surveyor: &S,
-) -> Answered {
-    let options = ample(rt, Options::new(1, 0, 10_000, 1));
-    let mut source = ShortSource::new(trace.as_bytes(), 99);
-    let mut hinted = ShortSource::new(hint.as_bytes(), 3);
-    let mut report = MemorySink::new(alloc);
-    let outcome = run_survey(
-        alloc,
-        rt,
-        &mut source,
-        &mut hinted,
-        surveyor,
-        &options,
-        &OpenGate,
-        &mut report,
-    );
-    Answered { outcome, report }
-}
+use verdict_report::{Fault, Status};
 
 /// Asserts that this is answered and reported, in the case of this number.
 fn assert_is(
@@ -70,9 +33,16 @@ fn answers_a_legal_hint(rt: HostRuntime) {
         lie: Lie::Schedule(1, 2),
         otherwise: Lie::Nothing,
     };
-    let found = answer_with(rt.alloc(), &rt, APART, "P.1\nQ.1\n", &liar);
+    let found = answer_with(rt.alloc(), &rt, APART, "P.1\nQ.1\n", &liar, 10_000);
     assert_is(&rt, &found, Ok(Status::Yes), b"CONSISTENT\nP.1\nQ.1\n", 1);
-    let found = answer_with(rt.alloc(), &rt, APART, "# as recorded\nQ.1\n\nP.1", &liar);
+    let found = answer_with(
+        rt.alloc(),
+        &rt,
+        APART,
+        "# as recorded\nQ.1\n\nP.1",
+        &liar,
+        10_000,
+    );
     assert_is(&rt, &found, Ok(Status::Yes), b"CONSISTENT\nQ.1\nP.1\n", 2);
 }
 
@@ -89,9 +59,9 @@ fn a_wrong_hint_turns_no_verdict(rt: HostRuntime) {
     let survey = BySaturation { budget: 1_000_000 };
     for hint in hints {
         let core = b"INCONSISTENT operations=4 cubes=1\nP.1\nP.2\nQ.1\nQ.2\n";
-        let found = answer_with(rt.alloc(), &rt, STORE_BUFFERING, hint, &survey);
+        let found = answer_with(rt.alloc(), &rt, STORE_BUFFERING, hint, &survey, 10_000);
         assert_is(&rt, &found, Ok(Status::No), core, 3);
-        let found = answer_with(rt.alloc(), &rt, HAND_OFF, hint, &survey);
+        let found = answer_with(rt.alloc(), &rt, HAND_OFF, hint, &survey, 10_000);
         assert_is(&rt, &found, Ok(Status::Yes), b"CONSISTENT\nP.1\nQ.1\n", 4);
     }
 }
@@ -112,10 +82,17 @@ fn long_hint(alloc: Global, rt: &impl Abort) -> String {
 fn a_legal_hint_needs_no_step(rt: HostRuntime) {
     let survey = BySaturation { budget: 0 };
     let long = ample(&rt, with_many_writes(rt.alloc(), HAND_OFF));
-    let found = answer_with(rt.alloc(), &rt, long.as_str(), "", &survey);
+    let found = answer_with(rt.alloc(), &rt, long.as_str(), "", &survey, 10_000);
     expect(&rt, found.outcome == Ok(Status::Unknown), 5);
     let hint = long_hint(rt.alloc(), &rt);
-    let found = answer_with(rt.alloc(), &rt, long.as_str(), hint.as_str(), &survey);
+    let found = answer_with(
+        rt.alloc(),
+        &rt,
+        long.as_str(),
+        hint.as_str(),
+        &survey,
+        10_000,
+    );
     expect(&rt, found.outcome == Ok(Status::Yes), 6);
     let schedule = found.report.as_slice().strip_prefix(b"CONSISTENT\n");
     expect(&rt, schedule.unwrap_or(b"") == hint.as_bytes(), 6);
@@ -126,9 +103,9 @@ fn a_legal_hint_needs_no_step(rt: HostRuntime) {
 fn refuses_a_faulty_hint(rt: HostRuntime) {
     let survey = BySaturation { budget: 0 };
     let fault = Fault::Schedule(ScheduleCause::BadNumber, 2);
-    let found = answer_with(rt.alloc(), &rt, HAND_OFF, "P.1\nQ.0\n", &survey);
+    let found = answer_with(rt.alloc(), &rt, HAND_OFF, "P.1\nQ.0\n", &survey, 10_000);
     assert_is(&rt, &found, Err(fault), b"", 7);
     let fault = Fault::Trace(TraceCause::Header, 1);
-    let found = answer_with(rt.alloc(), &rt, "vsc 9\n", "P.1\nQ.0\n", &survey);
+    let found = answer_with(rt.alloc(), &rt, "vsc 9\n", "P.1\nQ.0\n", &survey, 10_000);
     assert_is(&rt, &found, Err(fault), b"", 8);
 }

@@ -1,14 +1,12 @@
 //! A survey that may be refused memory: it says so, or what it reports is right. `tests/refused-memory` runs this with each request for
 //! memory refused in turn, so nothing here asks for what is `ample` of a call that takes memory.
 
-use crate::expectations::{ample, expect};
-use crate::long_traces::traces::{STORE_BUFFERING, no_hint};
-use cube_jobs::{OpenGate, Options};
-use dimacs::MemorySink;
+use crate::expectations::expect;
+use crate::long_traces::answers::texts_of;
+use crate::long_traces::traces::STORE_BUFFERING;
 use std::process::Abort;
 use survey::BySaturation;
-use survey_report::run_certified_survey;
-use verdict_report::{Fault, ShortSource, Status};
+use verdict_report::{Fault, Status};
 
 /// Asserts that what is written goes with the outcome, of a trace that has no legal schedule.
 fn assert_is_right(
@@ -37,31 +35,12 @@ fn assert_is_right(
 #[test]
 fn a_survey_is_right_or_lacks_memory(rt: HostRuntime) {
     let survey = BySaturation { budget: 1_000_000 };
-    let options = ample(&rt, Options::new(1, 0, 10_000, 1));
-    let mut source = ShortSource::new(STORE_BUFFERING.as_bytes(), 99);
-    let mut hint = no_hint();
-    let mut certificate = MemorySink::new(rt.alloc());
-    let mut names = MemorySink::new(rt.alloc());
-    let mut part = MemorySink::new(rt.alloc());
-    let mut output = MemorySink::new(rt.alloc());
-    let outcome = run_certified_survey(
-        rt.alloc(),
-        &rt,
-        &mut source,
-        &mut hint,
-        &survey,
-        &options,
-        &OpenGate,
-        &mut certificate,
-        &mut names,
-        &mut part,
-        &mut output,
-    );
+    let found = texts_of(rt.alloc(), &rt, STORE_BUFFERING, &survey);
     assert_is_right(
         &rt,
-        outcome,
-        names.as_slice(),
-        part.as_slice(),
-        output.as_slice(),
+        found.outcome,
+        found.names.as_slice(),
+        found.part.as_slice(),
+        found.report.as_slice(),
     );
 }

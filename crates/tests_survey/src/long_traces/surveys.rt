@@ -1,20 +1,19 @@
 //! What is reported of traces with the help of a survey, and of a surveyor that lies.
 
 use crate::expectations::{ample, expect};
+use crate::long_traces::answers::answer_with;
 use crate::long_traces::buffered_runs::buffered_run;
 use crate::long_traces::lying_surveyors::{Liar, Lie};
 use crate::long_traces::traces::{
-    HAND_OFF, LEARNED_BEFORE, STALE_MESSAGE, STALE_REASONS, STORE_BUFFERING, counted_lock, no_hint,
+    HAND_OFF, LEARNED_BEFORE, STALE_MESSAGE, STALE_REASONS, STORE_BUFFERING, counted_lock,
     with_many_writes,
 };
-use cube_jobs::{OpenGate, Options};
 use dimacs::MemorySink;
 use std::alloc::Global;
 use std::process::Abort;
 use std::sync::Wait;
 use std::thread::Threads;
 use survey::BySaturation;
-use survey_report::run_survey;
 use surveyor::{Finding, Surveyor};
 use trace_text::trace_reader::read_trace;
 use verdict_report::{ShortSource, Status, run_judge};
@@ -29,22 +28,9 @@ fn assert_reports<R: Threads + Wait + Abort + Sync, S: Surveyor>(
     report: &[u8],
     number: usize,
 ) {
-    let options = ample(rt, Options::new(1, 0, 10_000, 1));
-    let mut source = ShortSource::new(trace.as_bytes(), 99);
-    let mut hint = no_hint();
-    let mut output = MemorySink::new(alloc);
-    let outcome = run_survey(
-        alloc,
-        rt,
-        &mut source,
-        &mut hint,
-        surveyor,
-        &options,
-        &OpenGate,
-        &mut output,
-    );
-    expect(rt, outcome == Ok(status), number);
-    expect(rt, output.as_slice() == report, number);
+    let found = answer_with(alloc, rt, trace, "", surveyor, 10_000);
+    expect(rt, found.outcome == Ok(status), number);
+    expect(rt, found.report.as_slice() == report, number);
 }
 
 // Nothing that a surveyor says turns a verdict.
@@ -140,22 +126,9 @@ fn says_how_far_it_came(rt: HostRuntime) {
 fn finds_a_schedule_of_a_long_trace(rt: HostRuntime) {
     let survey = BySaturation { budget: 1_000_000 };
     let long = ample(&rt, with_many_writes(rt.alloc(), HAND_OFF));
-    let options = ample(&rt, Options::new(1, 0, 10_000, 1));
-    let mut source = ShortSource::new(long.as_bytes(), 99);
-    let mut hint = no_hint();
-    let mut output = MemorySink::new(rt.alloc());
-    let outcome = run_survey(
-        rt.alloc(),
-        &rt,
-        &mut source,
-        &mut hint,
-        &survey,
-        &options,
-        &OpenGate,
-        &mut output,
-    );
-    expect(&rt, outcome == Ok(Status::Yes), 8);
-    let schedule = output.as_slice().strip_prefix(b"CONSISTENT\n");
+    let found = answer_with(rt.alloc(), &rt, long.as_str(), "", &survey, 10_000);
+    expect(&rt, found.outcome == Ok(Status::Yes), 8);
+    let schedule = found.report.as_slice().strip_prefix(b"CONSISTENT\n");
     expect(&rt, schedule.is_some(), 8);
     let mut trace = ShortSource::new(long.as_bytes(), 99);
     let mut names = ShortSource::new(schedule.unwrap_or(b""), 99);
@@ -168,23 +141,11 @@ fn finds_a_schedule_of_a_long_trace(rt: HostRuntime) {
 #[test]
 fn decides_nothing_without_a_step(rt: HostRuntime) {
     let survey = BySaturation { budget: 0 };
-    let options = ample(&rt, Options::new(1, 0, 10_000, 1));
     let lock = ample(&rt, counted_lock(rt.alloc()));
-    let mut source = ShortSource::new(lock.as_bytes(), 99);
-    let mut hint = no_hint();
-    let mut output = MemorySink::new(rt.alloc());
-    let outcome = run_survey(
-        rt.alloc(),
-        &rt,
-        &mut source,
-        &mut hint,
-        &survey,
-        &options,
-        &OpenGate,
-        &mut output,
-    );
-    expect(&rt, outcome == Ok(Status::Unknown), 10);
-    expect(&rt, output.as_slice().starts_with(b"UNKNOWN placed="), 10);
+    let found = answer_with(rt.alloc(), &rt, lock.as_str(), "", &survey, 10_000);
+    expect(&rt, found.outcome == Ok(Status::Unknown), 10);
+    let report = found.report.as_slice();
+    expect(&rt, report.starts_with(b"UNKNOWN placed="), 10);
 }
 
 /// The number of steps that a survey of the trace with this budget reports.

@@ -1,16 +1,14 @@
 //! Surveyors that say two things of a trace: the first that shows something is the answer.
 
 use crate::expectations::{ample, expect};
+use crate::long_traces::answers::answer_with;
 use crate::long_traces::lying_surveyors::{Liar, Lie};
-use crate::long_traces::traces::{LOST_UPDATE, no_hint, with_many_writes};
-use cube_jobs::{OpenGate, Options};
-use dimacs::MemorySink;
+use crate::long_traces::traces::{LOST_UPDATE, with_many_writes};
 use std::alloc::Global;
 use std::process::Abort;
 use std::sync::Wait;
 use std::thread::Threads;
-use survey_report::run_survey;
-use verdict_report::{ShortSource, Status};
+use verdict_report::Status;
 
 /// The report on a lost update of which the surveyor finds the two operations.
 const BY_CORE: &[u8] = b"INCONSISTENT operations=2 cubes=1\nP.1\nP.2\n";
@@ -31,28 +29,15 @@ fn assert_reports<R: Threads + Wait + Abort + Sync>(
     report: &[u8],
     number: usize,
 ) {
-    let options = ample(rt, Options::new(1, 0, budget, 1));
     let trace = ample(rt, with_many_writes(alloc, LOST_UPDATE));
-    let mut source = ShortSource::new(trace.as_bytes(), 99);
-    let mut hint = no_hint();
-    let mut output = MemorySink::new(alloc);
-    let outcome = run_survey(
-        alloc,
-        rt,
-        &mut source,
-        &mut hint,
-        liar,
-        &options,
-        &OpenGate,
-        &mut output,
-    );
+    let found = answer_with(alloc, rt, trace.as_str(), "", liar, budget);
     let status = if report == UNDECIDED {
         Status::Unknown
     } else {
         Status::No
     };
-    expect(rt, outcome == Ok(status), number);
-    expect(rt, output.as_slice() == report, number);
+    expect(rt, found.outcome == Ok(status), number);
+    expect(rt, found.report.as_slice() == report, number);
 }
 
 /// What is found first, what is found second, the report, and the case's number. `x` is not even a location of the lost update, and the
