@@ -1,6 +1,6 @@
 //! What is known at a point of a unit propagation.
 
-use dimacs::Lit;
+use known_literals::KnownLiterals;
 use std::alloc::{AllocError, Global};
 
 /// Why an order of two operations is known.
@@ -25,36 +25,17 @@ pub struct ReasonedOrder {
 /// The literals that are true, and the orders among them with their reasons.
 #[derive(Drop)]
 pub struct Facts {
-    literals: Vec<Lit>,
+    pub literals: KnownLiterals,
     orders: Vec<ReasonedOrder>,
-}
-
-/// What the true literals make of a clause.
-#[derive(Clone, Copy)]
-pub enum Implication {
-    /// All its literals are false.
-    Contradiction,
-    /// This literal alone is neither true nor false, and the others are false.
-    Unit(Lit),
-    /// One of its literals is true.
-    Satisfied,
-    /// Two of its literals are neither true nor false.
-    Nothing,
 }
 
 impl Facts {
     /// Nothing.
     pub fn new(alloc: Global) -> Facts {
         Facts {
-            literals: Vec::new(alloc),
+            literals: KnownLiterals::new(alloc),
             orders: Vec::new(alloc),
         }
-    }
-
-    /// Adds a literal.
-    pub fn add(&mut self, literal: Lit) -> Result<(), AllocError> {
-        self.literals.push(literal)?;
-        Ok(())
     }
 
     /// Adds an order, with its reason.
@@ -70,38 +51,6 @@ impl Facts {
             reason,
         })?;
         Ok(())
-    }
-
-    /// Returns whether the literal of this number is true.
-    fn is_true(&self, number: i64) -> bool {
-        for literal in &self.literals {
-            if literal.number() as i64 == number {
-                return true;
-            }
-        }
-        false
-    }
-
-    /// Gives what they make of the clause of these literals.
-    pub fn implication(&self, literals: &[Lit]) -> Implication {
-        let mut open = None;
-        for literal in literals {
-            let number = literal.number() as i64;
-            if self.is_true(number) {
-                return Implication::Satisfied;
-            }
-            if self.is_true(-number) {
-                continue;
-            }
-            if open.is_some() {
-                return Implication::Nothing;
-            }
-            open = Some(*literal);
-        }
-        match open {
-            Some(literal) => Implication::Unit(literal),
-            None => Implication::Contradiction,
-        }
     }
 
     /// Why the first operation stands before the second, if that is known.

@@ -1,5 +1,6 @@
 //! Sentences on final values.
 
+use crate::standing_sentences::SentenceEnds;
 use crate::story::Phrase;
 use crate::telling::{Conclusion, Teller};
 use std::alloc::AllocError;
@@ -72,16 +73,17 @@ impl<'t> Teller<'t> {
             return Ok(());
         }
         self.say_order(last, writer)?;
-        let end: &[u8] = match conclusion {
-            Conclusion::Contradiction => b", the last write there: contradiction",
-            _ => b", which so is not the last write there",
+        let ends = SentenceEnds {
+            contradiction: b", the last write there: contradiction",
+            otherwise: b", which so is not the last write there",
         };
-        self.story.say(&[
-            Phrase::Whole(writer),
-            Phrase::Words(b" stands after "),
+        self.say_stands(
+            writer,
+            b" stands after ",
             Phrase::Whole(last),
-            Phrase::Words(end),
-        ]);
+            conclusion,
+            ends,
+        );
         Ok(())
     }
 }

@@ -13,6 +13,7 @@ mod literal_words;
 mod needed_steps;
 mod read_sentences;
 mod rests;
+mod standing_sentences;
 mod story;
 mod telling;
 

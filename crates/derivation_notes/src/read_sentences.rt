@@ -1,6 +1,7 @@
 //! Sentences on what is read from where.
 
 use crate::clause_meaning::ClauseMeaning;
+use crate::standing_sentences::SentenceEnds;
 use crate::story::{Phrase, Story};
 use crate::telling::{Conclusion, Teller};
 use std::alloc::AllocError;
@@ -145,16 +146,17 @@ impl<'t> Teller<'t> {
             return Ok(());
         }
         self.say_order(writer, reader)?;
-        let end: &[u8] = match conclusion {
-            Conclusion::Contradiction => b", which reads the initial value: contradiction",
-            _ => b", which so does not read the initial value",
+        let ends = SentenceEnds {
+            contradiction: b", which reads the initial value: contradiction",
+            otherwise: b", which so does not read the initial value",
         };
-        self.story.say(&[
-            Phrase::Whole(writer),
-            Phrase::Words(b" stands before "),
+        self.say_stands(
+            writer,
+            b" stands before ",
             Phrase::Name(reader),
-            Phrase::Words(end),
-        ]);
+            conclusion,
+            ends,
+        );
         Ok(())
     }
 
@@ -169,16 +171,17 @@ impl<'t> Teller<'t> {
             return Ok(());
         }
         self.say_order(reader, source)?;
-        let end: &[u8] = match conclusion {
-            Conclusion::Contradiction => b", from which it reads: contradiction",
-            _ => b", so it does not read from there",
+        let ends = SentenceEnds {
+            contradiction: b", from which it reads: contradiction",
+            otherwise: b", so it does not read from there",
         };
-        self.story.say(&[
-            Phrase::Whole(reader),
-            Phrase::Words(b" stands before "),
+        self.say_stands(
+            reader,
+            b" stands before ",
             Phrase::Whole(source),
-            Phrase::Words(end),
-        ]);
+            conclusion,
+            ends,
+        );
         Ok(())
     }
 
@@ -242,30 +245,34 @@ impl<'t> Teller<'t> {
     ) -> Result<(), AllocError> {
         if is_before_source {
             self.say_order(writer, reader)?;
-            self.story.say(&[
-                Phrase::Name(reader),
-                Phrase::Words(b" reads from "),
-                Phrase::Name(source),
-                Phrase::Words(b", so "),
-                Phrase::Whole(writer),
-                Phrase::Words(b", which stands before "),
-                Phrase::Name(reader),
-                Phrase::Words(b", stands before "),
-                Phrase::Name(source),
-            ]);
-            return Ok(());
+        } else {
+            self.say_order(source, writer)?;
         }
-        self.say_order(source, writer)?;
+        let known: &[u8] = if is_before_source {
+            b", which stands before "
+        } else {
+            b", which stands after "
+        };
+        let told: &[u8] = if is_before_source {
+            b", stands before "
+        } else {
+            b", stands after "
+        };
+        let (near, far) = if is_before_source {
+            (reader, source)
+        } else {
+            (source, reader)
+        };
         self.story.say(&[
             Phrase::Name(reader),
             Phrase::Words(b" reads from "),
             Phrase::Name(source),
             Phrase::Words(b", so "),
             Phrase::Whole(writer),
-            Phrase::Words(b", which stands after "),
-            Phrase::Name(source),
-            Phrase::Words(b", stands after "),
-            Phrase::Name(reader),
+            Phrase::Words(known),
+            Phrase::Name(near),
+            Phrase::Words(told),
+            Phrase::Name(far),
         ]);
         Ok(())
     }

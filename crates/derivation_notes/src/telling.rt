@@ -2,12 +2,13 @@
 
 use crate::chains::{chain_between, is_program_order, shortened};
 use crate::clause_meaning::{ClauseMeaning, meaning_at, order_of};
-use crate::facts::{Facts, Implication, OrderReason};
+use crate::facts::{Facts, OrderReason};
 use crate::literal_words::add_literal;
 use crate::needed_steps::{NeededStep, NeededSteps};
 use crate::story::{Phrase, Story};
 use clause_blocks::trace_clauses::TraceClauses;
 use dimacs::{ClauseList, Lit};
+use known_literals::ClauseEffect;
 use note_text::decimal;
 use std::alloc::{AllocError, Global};
 use trace_semantics::known_order::ends_before;
@@ -336,18 +337,27 @@ impl<'t> Teller<'t> {
         id: u64,
         literals: &[Lit],
     ) -> Result<StepEnd, AllocError> {
-        match self.facts.implication(literals) {
-            Implication::Contradiction => {
+        match self.facts.literals.effect_on(literals) {
+            ClauseEffect::Contradiction => {
                 self.tell_clause(needed, id, literals, None)?;
                 Ok(StepEnd::Contradiction)
             }
-            Implication::Unit(literal) => {
-                self.tell_clause(needed, id, literals, Some(literal))?;
-                self.facts.add(literal)?;
+            ClauseEffect::Implies(literal) => {
+                if !self.facts.literals.has(literal) {
+                    self.tell_clause(needed, id, literals, Some(literal))?;
+                    self.facts.literals.add(literal)?;
+                }
                 Ok(StepEnd::GoesOn)
             }
-            Implication::Satisfied => Ok(StepEnd::GoesOn),
-            Implication::Nothing => Ok(StepEnd::Unclear),
+            ClauseEffect::Open(first, second) => {
+                let is_satisfied = self.facts.literals.has(first)
+                    || self.facts.literals.has(second);
+                Ok(if is_satisfied {
+                    StepEnd::GoesOn
+                } else {
+                    StepEnd::Unclear
+                })
+            }
         }
     }
 
@@ -375,7 +385,7 @@ impl<'t> Teller<'t> {
         self.said = Vec::new(self.alloc);
         for literal in literals {
             let negated = literal.negated();
-            self.facts.add(negated)?;
+            self.facts.literals.add(negated)?;
             let conclusion = self.conclusion_of(negated);
             self.keep_order(conclusion)?;
         }

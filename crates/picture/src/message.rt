@@ -25,11 +25,25 @@ pub(crate) enum NothingDrawn {
     NoCore,
 }
 
+/// Adds a line of the note.
+fn note_line(svg: &mut SvgText, words: &[&[u8]]) {
+    svg.line_of_text(b"note", MARGIN, 54, words);
+}
+
+/// Adds a note that ends with the most operations of a picture, and has the number of those that there are between these words.
+fn note_too_many(svg: &mut SvgText, before: &[u8], count: u64, between: &[u8]) {
+    let most = decimal(MAX_DRAWN);
+    let number = decimal(count);
+    note_line(
+        svg,
+        &[before, number.as_slice(), between, most.as_slice(), b"."],
+    );
+}
+
 /// Draws what is answered, and why nothing else is drawn.
 pub(crate) fn draw_message(alloc: Global, why: NothingDrawn) -> Result<Vec<u8>, AllocError> {
     let mut svg = SvgText::new(alloc);
     begin_document(&mut svg, WIDTH, HEIGHT);
-    let most = decimal(MAX_DRAWN);
     let title: &[u8] = match why {
         NothingDrawn::LongSchedule(_) => b"CONSISTENT",
         NothingDrawn::NoSchedule => b"CONSISTENT",
@@ -38,40 +52,24 @@ pub(crate) fn draw_message(alloc: Global, why: NothingDrawn) -> Result<Vec<u8>, 
     };
     svg.line_of_text(b"title", MARGIN, 34, &[title]);
     match why {
-        NothingDrawn::LongSchedule(count) => svg.line_of_text(
-            b"note",
-            MARGIN,
-            54,
-            &[
-                b"A schedule of ",
-                decimal(count).as_slice(),
-                b" operations is too long for a picture, which has at most ",
-                most.as_slice(),
-                b".",
-            ],
+        NothingDrawn::LongSchedule(count) => note_too_many(
+            &mut svg,
+            b"A schedule of ",
+            count,
+            b" operations is too long for a picture, which has at most ",
         ),
-        NothingDrawn::NoSchedule => svg.line_of_text(
-            b"note",
-            MARGIN,
-            54,
+        NothingDrawn::NoSchedule => note_line(
+            &mut svg,
             &[b"The short survey for the picture found no schedule to draw."],
         ),
-        NothingDrawn::LargeCore(count) => svg.line_of_text(
-            b"note",
-            MARGIN,
-            54,
-            &[
-                b"The reason that was found has ",
-                decimal(count).as_slice(),
-                b" operations, which are too many for a picture: it has at most ",
-                most.as_slice(),
-                b".",
-            ],
+        NothingDrawn::LargeCore(count) => note_too_many(
+            &mut svg,
+            b"The reason that was found has ",
+            count,
+            b" operations, which are too many for a picture: it has at most ",
         ),
-        NothingDrawn::NoCore => svg.line_of_text(
-            b"note",
-            MARGIN,
-            54,
+        NothingDrawn::NoCore => note_line(
+            &mut svg,
             &[b"The short survey for the picture found no few operations that show it."],
         ),
     }

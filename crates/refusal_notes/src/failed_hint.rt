@@ -2,6 +2,7 @@
 
 use cnf_text::read_cnf;
 use dimacs::{ClauseList, Lit};
+use known_literals::{ClauseEffect, KnownLiterals};
 use lrat_check::derivation::Step;
 use lrat_check::lrat_reader::read_lrat;
 use note_text::{GrowingText, Notes, decimal};
@@ -9,17 +10,6 @@ use std::alloc::{AllocError, Global};
 
 /// The most hints that are followed.
 const MAX_FOLLOWED: usize = 200;
-
-/// What a clause is worth, by the literals that are true.
-#[derive(Clone, Copy)]
-enum HintWorth {
-    /// All its literals are false.
-    Conflict,
-    /// This one alone is not false.
-    Implies(Lit),
-    /// These two are not false.
-    Open(Lit, Lit),
-}
 
 /// Adds the literal as it stands in a text.
 fn add_number(words: &mut GrowingText, literal: Lit) {
@@ -35,39 +25,6 @@ fn add_number(words: &mut GrowingText, literal: Lit) {
 fn add_numbers(words: &mut GrowingText, literals: &[Lit]) {
     for literal in literals {
         add_number(words, *literal);
-    }
-}
-
-/// Returns whether the literal of this number is among these.
-fn has(literals: &[Lit], number: i64) -> bool {
-    for literal in literals {
-        if literal.number() as i64 == number {
-            return true;
-        }
-    }
-    false
-}
-
-/// Gives what the clause is worth.
-fn worth_of(trues: &[Lit], literals: &[Lit]) -> HintWorth {
-    let mut open: Option<Lit> = None;
-    for literal in literals {
-        let number = literal.number() as i64;
-        if has(trues, -number) {
-            continue;
-        }
-        match open {
-            None => open = Some(*literal),
-            Some(first) => {
-                if first.number() as i64 != number {
-                    return HintWorth::Open(first, *literal);
-                }
-            }
-        }
-    }
-    match open {
-        Some(literal) => HintWorth::Implies(literal),
-        None => HintWorth::Conflict,
     }
 }
 
@@ -159,17 +116,17 @@ fn note_open(alloc: Global, notes: &mut Notes, hint: PlacedHint, literals: &[Lit
 fn follow(
     alloc: Global,
     notes: &mut Notes,
-    trues: &mut Vec<Lit>,
+    known: &mut KnownLiterals,
     hint: PlacedHint,
     literals: &[Lit],
 ) -> Result<bool, AllocError> {
-    match worth_of(trues.as_slice(), literals) {
-        HintWorth::Conflict => Ok(false),
-        HintWorth::Implies(literal) => {
-            trues.push(literal)?;
+    match known.effect_on(literals) {
+        ClauseEffect::Contradiction => Ok(false),
+        ClauseEffect::Implies(literal) => {
+            known.add(literal)?;
             Ok(true)
         }
-        HintWorth::Open(first, second) => {
+        ClauseEffect::Open(first, second) => {
             note_open(alloc, notes, hint, literals, [first, second]);
             Ok(false)
         }
@@ -180,12 +137,12 @@ fn follow(
 fn follow_literal(
     alloc: Global,
     notes: &mut Notes,
-    trues: &mut Vec<Lit>,
+    known: &mut KnownLiterals,
     literal: Option<&Lit>,
     hint: PlacedHint,
 ) -> Result<bool, AllocError> {
     match literal {
-        Some(literal) => follow(alloc, notes, trues, hint, &[*literal]),
+        Some(literal) => follow(alloc, notes, known, hint, &[*literal]),
         None => {
             note_unknown(notes, hint);
             Ok(false)
@@ -198,14 +155,14 @@ fn follow_literal(
 fn follow_named<L: ClauseList>(
     alloc: Global,
     notes: &mut Notes,
-    trues: &mut Vec<Lit>,
+    known: &mut KnownLiterals,
     clauses: &L,
     cube: &[Lit],
     earlier: &[Step],
     hint: PlacedHint,
 ) -> Result<bool, AllocError> {
     match last_word(earlier, hint.id) {
-        LastWord::Added(literals) => return follow(alloc, notes, trues, hint, literals),
+        LastWord::Added(literals) => return follow(alloc, notes, known, hint, literals),
         LastWord::Dropped => {
             note_unknown(notes, hint);
             return Ok(false);
@@ -215,10 +172,10 @@ fn follow_named<L: ClauseList>(
     let place = usize::try_from(hint.id.saturating_sub(1)).unwrap_or(usize::MAX);
     let count = clauses.count();
     if place >= count {
-        return follow_literal(alloc, notes, trues, cube.get(place - count), hint);
+        return follow_literal(alloc, notes, known, cube.get(place - count), hint);
     }
     let clause = clauses.clause(place);
-    follow(alloc, notes, trues, hint, clause.as_slice())
+    follow(alloc, notes, known, hint, clause.as_slice())
 }
 
 /// Follows the hints up to the first that fails. Groups are not followed.
@@ -231,9 +188,9 @@ fn follow_hints<L: ClauseList>(
     literals: &[Lit],
     hints: &[i64],
 ) -> Result<(), AllocError> {
-    let mut trues = Vec::new(alloc);
+    let mut known = KnownLiterals::new(alloc);
     for literal in literals {
-        trues.push(literal.negated())?;
+        known.add(literal.negated())?;
     }
     let mut place: u64 = 0;
     for hint in hints.get(..MAX_FOLLOWED).unwrap_or(hints) {
@@ -245,7 +202,7 @@ fn follow_hints<L: ClauseList>(
             id: hint.unsigned_abs(),
             place,
         };
-        if !follow_named(alloc, notes, &mut trues, clauses, cube, earlier, placed)? {
+        if !follow_named(alloc, notes, &mut known, clauses, cube, earlier, placed)? {
             return Ok(());
         }
     }

@@ -64,28 +64,21 @@ fn advise_budget(notes: &mut Notes, budget: u64) {
     ]);
 }
 
+/// Notes that the most of an option may be tried, and for what, if there are fewer now.
+fn advise_most(notes: &mut Notes, now: u32, most: u32, option: &[u8], why: &[u8]) {
+    if now < most {
+        notes.note(&[b"try ", option, b" ", decimal(most as u64).as_slice(), why]);
+    }
+}
+
 /// Notes how many rounds to try.
 fn advise_rounds(notes: &mut Notes, rounds: u32) {
-    if rounds >= MAX_ROUNDS {
-        return;
-    }
-    let most = decimal(MAX_ROUNDS as u64);
-    notes.note(&[
-        b"try --rounds ",
-        most.as_slice(),
-        b": each round splits the cubes that are open",
-    ]);
+    let why = b": each round splits the cubes that are open";
+    advise_most(notes, rounds, MAX_ROUNDS, b"--rounds", why);
 }
 
 /// Notes how many workers to try.
 fn advise_workers(notes: &mut Notes, workers: u32) {
-    if workers >= MAX_WORKERS {
-        return;
-    }
-    let most = decimal(MAX_WORKERS as u64);
-    notes.note(&[
-        b"try --workers ",
-        most.as_slice(),
-        b", if there are as many processors: it searches more cubes at once",
-    ]);
+    let why = b", if there are as many processors: it searches more cubes at once";
+    advise_most(notes, workers, MAX_WORKERS, b"--workers", why);
 }
