@@ -8,10 +8,11 @@ ghost use Rattle.survey_report.specs.SurveyEngine.{IsRunOfCertifiedSurvey, IsRun
 ghost use Rattle.verdict_report.specs.Runs.{source_run, sink_run};
 ghost use Rattle.verdict_report.specs.declared.status.Status.TheVariants.{Unknown};
 
+use crate::asked_gate::AskedGate;
 use crate::asked_text::open_asked;
 use crate::kept_run::KeptRun;
 use command_host::{Host, SearchRequest};
-use cube_jobs::{Gate, OpenGate};
+use cube_jobs::Gate;
 use dimacs::Sink;
 use std::alloc::Global;
 use std::sync::Wait;
@@ -54,11 +55,8 @@ fn survey<'p, R: Threads + Wait + Sync, G: Gate + Sync, H: Host<'p>, T: Source, 
     host.begin_search(search);
     let surveyor = surveyor_of(search);
     let options = &search.options;
-    if search.tells_progress {
-        run_survey(alloc, rt, trace, hint, &surveyor, options, progress, out)
-    } else {
-        run_survey(alloc, rt, trace, hint, &surveyor, options, &OpenGate, out)
-    }
+    let gate = AskedGate::new(progress, search.tells_progress);
+    run_survey(alloc, rt, trace, hint, &surveyor, options, &gate, out)
 }
 
 /// Does what [`survey`] does, with a certificate, the names of a core, and its part.
@@ -107,15 +105,10 @@ fn certify<
     host.begin_search(search);
     let surveyor = surveyor_of(search);
     let options = &search.options;
-    if search.tells_progress {
-        run_certified_survey(
-            alloc, rt, trace, hint, &surveyor, options, progress, cert, names, part, out,
-        )
-    } else {
-        run_certified_survey(
-            alloc, rt, trace, hint, &surveyor, options, &OpenGate, cert, names, part, out,
-        )
-    }
+    let gate = AskedGate::new(progress, search.tells_progress);
+    run_certified_survey(
+        alloc, rt, trace, hint, &surveyor, options, &gate, cert, names, part, out,
+    )
 }
 
 /// Does what [`survey`] does, with the hint in a file if there is a path for it.

@@ -3,6 +3,7 @@
 
 mod arguments;
 mod asked_file;
+mod asked_gate;
 mod asked_text;
 mod batch_runs;
 mod beside;

@@ -6,9 +6,10 @@ ghost use Rattle.verdict_report.specs.Runs.{source_run, sink_run};
 ghost use Rattle.verdict_report.specs.VerifyEngine.{IsRunOfCertifiedVerify, IsRunOfVerify, TellsOpen};
 ghost use Rattle.verdict_report.specs.declared.status.Status.TheVariants.{Unknown};
 
+use crate::asked_gate::AskedGate;
 use command_host::{Host, SearchRequest};
 use command_line::{SearchNumbers, SurveyNumbers};
-use cube_jobs::{Gate, OpenGate, Options};
+use cube_jobs::{Gate, Options};
 use dimacs::Sink;
 use std::alloc::Global;
 use std::sync::Wait;
@@ -84,11 +85,8 @@ pub(crate) fn decide<'p, R: Threads + Wait + Sync, G: Gate + Sync, H: Host<'p>, 
     ensures same_trace { T.path trace.new ≡ T.path trace.old }
 {
     host.begin_search(search);
-    if search.tells_progress {
-        run_verify(alloc, rt, trace, &search.options, progress, out)
-    } else {
-        run_verify(alloc, rt, trace, &search.options, &OpenGate, out)
-    }
+    let gate = AskedGate::new(progress, search.tells_progress);
+    run_verify(alloc, rt, trace, &search.options, &gate, out)
 }
 
 /// Does the same, with a certificate.
@@ -123,9 +121,6 @@ pub(crate) fn certify<
     ensures same_cert { C.path cert.new ≡ C.path cert.old }
 {
     host.begin_search(search);
-    if search.tells_progress {
-        run_certified_verify(alloc, rt, trace, &search.options, progress, cert, out)
-    } else {
-        run_certified_verify(alloc, rt, trace, &search.options, &OpenGate, cert, out)
-    }
+    let gate = AskedGate::new(progress, search.tells_progress);
+    run_certified_verify(alloc, rt, trace, &search.options, &gate, cert, out)
 }
