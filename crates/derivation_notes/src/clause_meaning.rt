@@ -7,7 +7,7 @@ use var_layout::layout::Layout;
 
 /// What a clause says, of operations by their numbers.
 #[derive(Clone, Copy)]
-pub enum ClauseMeaning {
+pub enum NotedMeaning {
     /// An operation stands before the next one of its process.
     ProgramOrder,
     /// The order of three operations has no cycle.
@@ -45,7 +45,7 @@ pub enum ClauseMeaning {
 /// A clause that was looked for.
 #[derive(Clone, Copy)]
 enum LookUp {
-    Found(ClauseMeaning),
+    Found(NotedMeaning),
     /// It stands this many places further on.
     Beyond(usize),
     /// There is none.
@@ -67,7 +67,7 @@ fn other_at(numbers: &[usize], but: usize, place: usize) -> Option<usize> {
     None
 }
 
-fn found(meaning: Option<ClauseMeaning>) -> LookUp {
+fn found(meaning: Option<NotedMeaning>) -> LookUp {
     match meaning {
         Some(meaning) => LookUp::Found(meaning),
         None => LookUp::Missing,
@@ -80,18 +80,18 @@ fn meaning_of_choice(
     choice: ReadsFromChoice,
     writers: &[usize],
     place: usize,
-) -> Option<ClauseMeaning> {
+) -> Option<NotedMeaning> {
     match choice.candidate {
         Candidate::InitialValue => {
             let writer = *writers.get(place)?;
-            Some(ClauseMeaning::BeforeWriter { reader, writer })
+            Some(NotedMeaning::BeforeWriter { reader, writer })
         }
         Candidate::Writer(source) => {
             if place == 0 {
-                return Some(ClauseMeaning::AfterSource { reader, source });
+                return Some(NotedMeaning::AfterSource { reader, source });
             }
             let writer = other_at(writers, source, place - 1)?;
-            Some(ClauseMeaning::NotBetween {
+            Some(NotedMeaning::NotBetween {
                 reader,
                 source,
                 writer,
@@ -124,13 +124,13 @@ fn search_reader(layout: &Layout, reader: usize, place: usize) -> LookUp {
     }
     let choices = layout.choices(reader);
     if place == 0 {
-        return LookUp::Found(ClauseMeaning::HasSource(reader));
+        return LookUp::Found(NotedMeaning::HasSource(reader));
     }
     if !choices.is_empty() {
         return search_choices(reader, choices, layout.other_writers(reader), place - 1);
     }
     if place == 1 {
-        return LookUp::Found(ClauseMeaning::HasSource(reader));
+        return LookUp::Found(NotedMeaning::HasSource(reader));
     }
     LookUp::Beyond(place - 2)
 }
@@ -148,7 +148,7 @@ fn search_last(
         if rest < others {
             let last = choice.writer;
             return match other_at(writers, last, rest) {
-                Some(writer) => LookUp::Found(ClauseMeaning::BeforeLast {
+                Some(writer) => LookUp::Found(NotedMeaning::BeforeLast {
                     final_value,
                     last,
                     writer,
@@ -162,7 +162,7 @@ fn search_last(
 }
 
 /// Gives what the clause at this place of those of reads says.
-fn meaning_of_read(layout: &Layout, place: usize) -> Option<ClauseMeaning> {
+fn meaning_of_read(layout: &Layout, place: usize) -> Option<NotedMeaning> {
     let mut rest = place;
     for reader in 0..layout.operations() {
         match search_reader(layout, reader, rest) {
@@ -175,9 +175,9 @@ fn meaning_of_read(layout: &Layout, place: usize) -> Option<ClauseMeaning> {
 }
 
 /// Gives what the clause at this place of those of before pairs says: there is one for each pair.
-fn meaning_of_pair(layout: &Layout, place: usize) -> Option<ClauseMeaning> {
+fn meaning_of_pair(layout: &Layout, place: usize) -> Option<NotedMeaning> {
     if place < layout.before().len() {
-        Some(ClauseMeaning::BeforePair)
+        Some(NotedMeaning::BeforePair)
     } else {
         None
     }
@@ -185,7 +185,7 @@ fn meaning_of_pair(layout: &Layout, place: usize) -> Option<ClauseMeaning> {
 
 /// Gives what the clause at this place says, counted from the first of those of final values, behind which those of before pairs stand. A final
 /// value that nothing leaves has two clauses, and one that is there from the start has none.
-fn meaning_of_final(layout: &Layout, place: usize) -> Option<ClauseMeaning> {
+fn meaning_of_final(layout: &Layout, place: usize) -> Option<NotedMeaning> {
     let mut rest = place;
     for k in 0..layout.final_values() {
         let choices = layout.finals(k);
@@ -194,7 +194,7 @@ fn meaning_of_final(layout: &Layout, place: usize) -> Option<ClauseMeaning> {
             continue;
         }
         if rest == 0 || (is_void && rest == 1) {
-            return Some(ClauseMeaning::HasLast(k));
+            return Some(NotedMeaning::HasLast(k));
         }
         if is_void {
             rest -= 2;
@@ -217,14 +217,14 @@ fn is_void_final(layout: &Layout, k: usize) -> bool {
 }
 
 /// Gives what the clause at this place says, counted from 0.
-pub fn meaning_at(clauses: &TraceClauses, place: usize) -> Option<ClauseMeaning> {
+pub fn meaning_at(clauses: &TraceClauses, place: usize) -> Option<NotedMeaning> {
     let layout = clauses.layout();
     if place < clauses.transitivity_start() {
-        return Some(ClauseMeaning::ProgramOrder);
+        return Some(NotedMeaning::ProgramOrder);
     }
     let reads = clauses.reads_start();
     if place < reads {
-        return Some(ClauseMeaning::Transitivity);
+        return Some(NotedMeaning::Transitivity);
     }
     let finals = clauses.final_values_start();
     if place < finals {

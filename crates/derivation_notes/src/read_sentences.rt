@@ -1,6 +1,6 @@
 //! Sentences on what is read from where.
 
-use crate::clause_meaning::ClauseMeaning;
+use crate::clause_meaning::NotedMeaning;
 use crate::standing_sentences::SentenceEnds;
 use crate::story::{Phrase, Story};
 use crate::telling::{Conclusion, Teller};
@@ -44,30 +44,30 @@ impl<'t> Teller<'t> {
     /// Says a clause of what is read, or of final values.
     pub fn tell_sources(
         &mut self,
-        meaning: &ClauseMeaning,
+        meaning: &NotedMeaning,
         conclusion: Conclusion,
     ) -> Result<(), AllocError> {
         match meaning {
-            ClauseMeaning::HasSource(reader) => {
+            NotedMeaning::HasSource(reader) => {
                 self.tell_source(*reader, conclusion);
                 Ok(())
             }
-            ClauseMeaning::BeforeWriter { reader, writer } => {
+            NotedMeaning::BeforeWriter { reader, writer } => {
                 self.tell_before_writer(*reader, *writer, conclusion)
             }
-            ClauseMeaning::AfterSource { reader, source } => {
+            NotedMeaning::AfterSource { reader, source } => {
                 self.tell_after_source(*reader, *source, conclusion)
             }
-            ClauseMeaning::NotBetween {
+            NotedMeaning::NotBetween {
                 reader,
                 source,
                 writer,
             } => self.tell_not_between(*reader, *source, *writer, conclusion),
-            ClauseMeaning::HasLast(final_value) => {
+            NotedMeaning::HasLast(final_value) => {
                 self.tell_last(*final_value, conclusion);
                 Ok(())
             }
-            ClauseMeaning::BeforeLast { last, writer, .. } => {
+            NotedMeaning::BeforeLast { last, writer, .. } => {
                 self.tell_before_last(*last, *writer, conclusion)
             }
             _ => Ok(()),

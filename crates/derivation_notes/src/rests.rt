@@ -1,6 +1,6 @@
 //! On what a long derivation rests.
 
-use crate::clause_meaning::{ClauseMeaning, meaning_at, order_of};
+use crate::clause_meaning::{NotedMeaning, meaning_at, order_of};
 use crate::needed_steps::NeededSteps;
 use crate::story::{Phrase, Story};
 use clause_blocks::trace_clauses::TraceClauses;
@@ -77,17 +77,17 @@ impl Rests {
     /// Marks the operations of the clause at this place.
     fn add_clause(&mut self, clauses: &TraceClauses, place: usize) {
         match meaning_at(clauses, place) {
-            Some(ClauseMeaning::HasSource(reader)) => mark(&mut self.operations, reader),
-            Some(ClauseMeaning::BeforeWriter { reader, writer }) => {
+            Some(NotedMeaning::HasSource(reader)) => mark(&mut self.operations, reader),
+            Some(NotedMeaning::BeforeWriter { reader, writer }) => {
                 mark(&mut self.operations, reader);
                 mark(&mut self.operations, writer);
             }
-            Some(ClauseMeaning::AfterSource { reader, source }) => {
+            Some(NotedMeaning::AfterSource { reader, source }) => {
                 mark(&mut self.operations, reader);
                 mark(&mut self.operations, source);
             }
             Some(
-                ClauseMeaning::NotBetween {
+                NotedMeaning::NotBetween {
                     reader,
                     source,
                     writer,
@@ -97,11 +97,11 @@ impl Rests {
                 mark(&mut self.operations, source);
                 mark(&mut self.operations, writer);
             }
-            Some(ClauseMeaning::BeforeLast { last, writer, .. }) => {
+            Some(NotedMeaning::BeforeLast { last, writer, .. }) => {
                 mark(&mut self.operations, last);
                 mark(&mut self.operations, writer);
             }
-            Some(ClauseMeaning::BeforePair) => self.add_pair(clauses, place),
+            Some(NotedMeaning::BeforePair) => self.add_pair(clauses, place),
             _ => {}
         }
     }

@@ -1,7 +1,7 @@
 //! A derivation that is followed clause by clause, and said in sentences.
 
 use crate::chains::{chain_between, is_program_order, shortened};
-use crate::clause_meaning::{ClauseMeaning, meaning_at, order_of};
+use crate::clause_meaning::{NotedMeaning, meaning_at, order_of};
 use crate::facts::{Facts, OrderReason};
 use crate::literal_words::add_literal;
 use crate::needed_steps::{NeededStep, NeededSteps};
@@ -259,18 +259,18 @@ impl<'t> Teller<'t> {
     /// Says a clause of the formula that says this, if it is one of order, and keeps an order that it concludes.
     fn tell_orders(
         &mut self,
-        meaning: ClauseMeaning,
+        meaning: NotedMeaning,
         literals: &[Lit],
         conclusion: Conclusion,
     ) -> Result<(), AllocError> {
         match meaning {
-            ClauseMeaning::ProgramOrder => {
+            NotedMeaning::ProgramOrder => {
                 self.tell_order(literals, conclusion, OrderReason::ProgramOrder)
             }
-            ClauseMeaning::BeforePair => {
+            NotedMeaning::BeforePair => {
                 self.tell_order(literals, conclusion, OrderReason::BeforePair)
             }
-            ClauseMeaning::Transitivity => self.tell_transitivity(literals, conclusion),
+            NotedMeaning::Transitivity => self.tell_transitivity(literals, conclusion),
             _ => self.keep_order(conclusion),
         }
     }

@@ -1,0 +1,5 @@
+pub mod ListLemmas
+pub mod MeaningLemmas
+pub mod PlaceLemmas
+pub mod StartLemmas
+pub mod TripleLemmas

@@ -1,0 +1,4 @@
+pub mod Examples
+pub mod Meanings
+pub mod Runs
+pub mod Starts
