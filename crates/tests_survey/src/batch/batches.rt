@@ -38,46 +38,51 @@ fn outcome_of(counted: Result<VerdictTally, SinkFault>) -> Option<Result<Status,
 }
 
 /// A consistent trace after a comment, an inconsistent one, and one with a fault in line 15.
-const THREE: &[u8] =
+pub const THREE: &[u8] =
     b"# one\n\nvsc 1\nproc P\nW x 1\nvsc 1\ninit x 0\ninit y 0\nproc P\nW x 1\nR y 0\nproc Q\nW y 1\nR x 0\nvsc x\n";
 
 /// What is written of them.
 const LINES: &[u8] =
     b"t:1 CONSISTENT\nt:2 INCONSISTENT cubes=4\nt:3 refused: trace 3 Header at 15\n";
 
+/// Asserts how a batch of one text ends, and what it writes of it, in the case of this number.
+fn assert_writes<R: Threads + Wait + Abort + Sync>(
+    rt: &R,
+    alloc: Global,
+    mut source: ShortSource<'_>,
+    workers: u32,
+    outcome: Result<Status, Fault>,
+    lines: &[u8],
+    number: usize,
+) {
+    let mut out = MemorySink::new(alloc);
+    let counted = batch_of(
+        alloc,
+        rt,
+        &mut source,
+        VerdictTally::new(),
+        workers,
+        &mut out,
+    );
+    expect(rt, outcome_of(counted) == Some(outcome), number);
+    expect(rt, out.as_slice() == lines, number);
+}
+
 #[test]
 fn writes_a_line_for_each_piece(rt: HostRuntime) {
-    let alloc = rt.alloc();
     for workers in 1..3u32 {
-        let mut source = ShortSource::new(THREE, 7);
-        let mut out = MemorySink::new(alloc);
-        let outcome = batch_of(
-            alloc,
-            &rt,
-            &mut source,
-            VerdictTally::new(),
-            workers,
-            &mut out,
-        );
-        expect(&rt, outcome_of(outcome) == Some(Ok(Status::No)), 1);
-        expect(&rt, out.as_slice() == LINES, 2);
+        let source = ShortSource::new(THREE, 7);
+        assert_writes(&rt, rt.alloc(), source, workers, Ok(Status::No), LINES, 1);
     }
 }
 
 #[test]
 fn refuses_with_the_first_refusal(rt: HostRuntime) {
-    let alloc = rt.alloc();
-    let mut source = ShortSource::new(b"vsc 1\nvsc 1\nproc\nvsc\n", 99);
-    let mut out = MemorySink::new(alloc);
-    let outcome = batch_of(alloc, &rt, &mut source, VerdictTally::new(), 1, &mut out);
-    expect(
-        &rt,
-        outcome_of(outcome) == Some(Err(Fault::Trace(TraceCause::UnknownLine, 3))),
-        1,
-    );
+    let source = ShortSource::new(b"vsc 1\nvsc 1\nproc\nvsc\n", 99);
+    let refusal = Err(Fault::Trace(TraceCause::UnknownLine, 3));
     let lines =
         b"t:1 CONSISTENT\nt:2 refused: trace 4 UnknownLine at 3\nt:3 refused: trace 3 Header at 4\n";
-    expect(&rt, out.as_slice() == lines.as_slice(), 2);
+    assert_writes(&rt, rt.alloc(), source, 1, refusal, lines, 2);
 }
 
 #[test]
@@ -98,28 +103,17 @@ fn writes_a_prefix_if_the_sink_fails(rt: HostRuntime) {
 
 #[test]
 fn refuses_what_cannot_be_read(rt: HostRuntime) {
-    let alloc = rt.alloc();
-    let mut source = ShortSource::new(THREE, 7).failing_at(3);
-    let mut out = MemorySink::new(alloc);
-    let outcome = batch_of(alloc, &rt, &mut source, VerdictTally::new(), 1, &mut out);
-    expect(&rt, outcome_of(outcome) == Some(Err(Fault::Device)), 1);
-    expect(
-        &rt,
-        out.as_slice() == b"t:1 refused: device\n".as_slice(),
-        2,
-    );
+    let source = ShortSource::new(THREE, 7).failing_at(3);
+    let line = b"t:1 refused: device\n";
+    assert_writes(&rt, rt.alloc(), source, 1, Err(Fault::Device), line, 3);
 }
 
+// Sixteen calls make a block, of 80 bytes, in which the first trace ends.
 #[test]
 fn writes_the_lines_of_earlier_blocks_if_the_source_fails(rt: HostRuntime) {
-    let alloc = rt.alloc();
-    // Sixteen calls make a block, of 80 bytes, in which the first trace ends.
-    let mut source = ShortSource::new(THREE, 5).failing_at(17);
-    let mut out = MemorySink::new(alloc);
-    let outcome = batch_of(alloc, &rt, &mut source, VerdictTally::new(), 1, &mut out);
-    expect(&rt, outcome_of(outcome) == Some(Err(Fault::Device)), 1);
+    let source = ShortSource::new(THREE, 5).failing_at(17);
     let lines = b"t:1 CONSISTENT\nt:2 refused: device\n";
-    expect(&rt, out.as_slice() == lines.as_slice(), 2);
+    assert_writes(&rt, rt.alloc(), source, 1, Err(Fault::Device), lines, 4);
 }
 
 #[test]
@@ -137,20 +131,13 @@ fn counts_on_behind_another_text(rt: HostRuntime) {
     expect(&rt, out.as_slice().ends_with(b"at 15\nt:1 CONSISTENT\n"), 3);
 }
 
+// The first block ends within the second line `vsc 1`, or within a line `vscs` that begins no trace.
 #[test]
 fn cuts_no_piece_within_a_line(rt: HostRuntime) {
-    let alloc = rt.alloc();
-    // The first block ends within the second line `vsc 1`, or within a line `vscs` that begins no trace.
     for size in 1..9usize {
-        let mut source = ShortSource::new(b"vsc 1\nproc P\nW x 1\nvsc 1\nproc P\nvscs 1\n", size);
-        let mut out = MemorySink::new(alloc);
-        let outcome = batch_of(alloc, &rt, &mut source, VerdictTally::new(), 1, &mut out);
-        expect(
-            &rt,
-            outcome_of(outcome) == Some(Err(Fault::Trace(TraceCause::UnknownLine, 6))),
-            size,
-        );
+        let source = ShortSource::new(b"vsc 1\nproc P\nW x 1\nvsc 1\nproc P\nvscs 1\n", size);
+        let refusal = Err(Fault::Trace(TraceCause::UnknownLine, 6));
         let lines = b"t:1 CONSISTENT\nt:2 refused: trace 4 UnknownLine at 6\n";
-        expect(&rt, out.as_slice() == lines.as_slice(), size);
+        assert_writes(&rt, rt.alloc(), source, 1, refusal, lines, size);
     }
 }

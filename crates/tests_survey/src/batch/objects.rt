@@ -1,5 +1,6 @@
 //! Lines that are objects of JSON.
 
+use crate::batch::batches::THREE;
 use crate::expectations::{ample, expect};
 use batch_report::{JsonForm, NoMembers, VerdictTally, run_batch_in};
 use cube_jobs::Options;
@@ -38,32 +39,32 @@ fn objects_of<R: Threads + Wait + Abort + Sync>(
     )
 }
 
-/// A consistent trace after a comment, an inconsistent one, and one with a fault in line 15.
-const THREE: &[u8] =
-    b"# one\n\nvsc 1\nproc P\nW x 1\nvsc 1\ninit x 0\ninit y 0\nproc P\nW x 1\nR y 0\nproc Q\nW y 1\nR x 0\nvsc x\n";
-
-/// Their objects.
+/// The objects of the three traces.
 const OBJECTS: &[u8] =
     b"{\"file\":\"t\\\"\",\"number\":1,\"line\":3,\"verdict\":\"CONSISTENT\"}\n{\"file\":\"t\\\"\",\"number\":2,\"line\":6,\"verdict\":\"INCONSISTENT\",\"cubes\":4}\n{\"file\":\"t\\\"\",\"number\":3,\"line\":15,\"verdict\":\"refused\",\"refusal\":{\"area\":\"trace\",\"number\":3,\"name\":\"Header\",\"line\":15}}\n";
 
+/// Asserts which objects are written of the source's text.
+fn assert_objects<R: Threads + Wait + Abort + Sync>(
+    rt: &R,
+    alloc: Global,
+    mut source: ShortSource<'_>,
+    objects: &[u8],
+) {
+    let mut out = MemorySink::new(alloc);
+    let outcome = objects_of(alloc, rt, &mut source, &mut out);
+    expect(rt, outcome.is_ok(), 1);
+    expect(rt, out.as_slice() == objects, 2);
+}
+
 #[test]
 fn writes_an_object_for_each_piece(rt: HostRuntime) {
-    let alloc = rt.alloc();
-    let mut source = ShortSource::new(THREE, 7);
-    let mut out = MemorySink::new(alloc);
-    let outcome = objects_of(alloc, &rt, &mut source, &mut out);
-    expect(&rt, outcome.is_ok(), 1);
-    expect(&rt, out.as_slice() == OBJECTS, 2);
+    assert_objects(&rt, rt.alloc(), ShortSource::new(THREE, 7), OBJECTS);
 }
 
 #[test]
 fn a_failed_device_has_an_area_alone(rt: HostRuntime) {
-    let alloc = rt.alloc();
-    let mut source = ShortSource::new(THREE, 7).failing_at(3);
-    let mut out = MemorySink::new(alloc);
-    let outcome = objects_of(alloc, &rt, &mut source, &mut out);
-    expect(&rt, outcome.is_ok(), 1);
+    let source = ShortSource::new(THREE, 7).failing_at(3);
     let object =
         b"{\"file\":\"t\\\"\",\"number\":1,\"line\":1,\"verdict\":\"refused\",\"refusal\":{\"area\":\"device\"}}\n";
-    expect(&rt, out.as_slice() == object.as_slice(), 2);
+    assert_objects(&rt, rt.alloc(), source, object);
 }
