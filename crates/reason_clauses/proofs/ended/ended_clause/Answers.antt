@@ -7,6 +7,7 @@ use Rattle.reason_clauses.specs.EndedRefused.{IsEndedRefused}
 use Rattle.reason_clauses.specs.Made.{Makes}
 use Rattle.reason_clauses.specs.RefusedBy.{IsMissingNumber}
 use Rattle.reason_clauses.proofs.EndedLemmas.{ended_is, ended_made, ended_holds_by}
+use Rattle.reason_clauses.proofs.MakerLemmas.{number_known}
 use Rattle.reason_clauses.proofs.RefusedLemmas.{refusal_on}
 use Rattle.reason_clauses.proofs.ended.ended_clause.Goals as goal
 
@@ -24,7 +25,13 @@ returns-clause-holds c =
 pub returns-then-not-ends_before-clause-refused : goal.returns-then-not-ends_before-clause-refused
 returns-then-not-ends_before-clause-refused c =
     let apart : ends_before (span_of c.in_ok-first.first.now) (span_of c.in_ok-second.second.now) ≡ false = (λ i. ends_before (sym c.span.ensures i) (sym c.span-2.ensures i)) ∙ sym c.ends_before.ensures ∙ c.if-not-ends_before.true in
-    inr (ended_is c.args.trace.now c.args.order.first c.args.order.second c.in_ok-first.first.now c.in_ok-second.second.now c.in_ok-first.ensures.there c.in_ok-second.ensures.there ∙ apart, refl)
+    let t = c.args.trace.now in
+    inr (
+      number_known t c.args.order.first _ c.in_ok-first.ensures.there,
+      number_known t c.args.order.second _ c.in_ok-second.ensures.there,
+      ended_is t c.args.order.first c.args.order.second c.in_ok-first.first.now c.in_ok-second.second.now c.in_ok-first.ensures.there c.in_ok-second.ensures.there ∙ apart,
+      refl,
+    )
 
 pub returns-in_err-first-clause-refused : goal.returns-in_err-first-clause-refused
 returns-in_err-first-clause-refused c =

@@ -24,11 +24,9 @@ returns-clause-holds c =
 pub returns-then-not-is_pair-clause-refused : goal.returns-then-not-is_pair-clause-refused
 returns-then-not-is_pair-clause-refused c =
     let t = c.args.trace.now in
-    inr (
-      λ listed. (let found = c.is_pair.ensures.found listed (number_known t c.args.order.first _ c.in_ok-_first.ensures.there) (number_known t c.args.order.second _ c.in_ok-_second.ensures.there) in
-          let clash : true ≡ false = sym found ∙ c.if-not-is_pair.true in absurd (cc)),
-      refl,
-    )
+    let first = number_known t c.args.order.first _ c.in_ok-_first.ensures.there in
+    let second = number_known t c.args.order.second _ c.in_ok-_second.ensures.there in
+    inr (first, second, λ listed. (let clash : true ≡ false = sym (c.is_pair.ensures.found listed first second) ∙ c.if-not-is_pair.true in absurd (cc)), refl)
 
 pub returns-in_err-_first-clause-refused : goal.returns-in_err-_first-clause-refused
 returns-in_err-_first-clause-refused c =
