@@ -11,6 +11,7 @@ use crate::rests::Rests;
 use crate::story::Story;
 use crate::telling::Teller;
 use clause_blocks::trace_clauses::TraceClauses;
+use clause_meaning::clause_runs::ClauseRuns;
 use dimacs::ClauseList;
 use lrat_check::checker::check;
 use lrat_check::derivation::Derivation;
@@ -107,13 +108,14 @@ fn explain_accepted(
     let Some(needed) = needed_steps(alloc, derivation, clauses.count() as u64)? else {
         return Ok(Telling::NotInSentences);
     };
-    let rests = Rests::of(alloc, clauses, &needed)?;
+    let meanings = ClauseRuns::of(alloc, clauses)?;
+    let rests = Rests::of(alloc, clauses, &meanings, &needed)?;
     let story = Story::new(alloc, ops);
     if needed.count() > MAX_STEPS || needed.hints() > MAX_HINTS {
         rests.explain(notes, &story, needed.count());
         return Ok(Telling::NotInSentences);
     }
-    let mut teller = Teller::new(alloc, clauses, story);
+    let mut teller = Teller::new(alloc, clauses, meanings, story);
     if !tell_steps(&mut teller, &needed)? {
         return Ok(Telling::NotInSentences);
     }

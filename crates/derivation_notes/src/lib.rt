@@ -5,10 +5,10 @@
 #![tactic(auto)]
 
 mod chains;
-mod clause_meaning;
 mod explaining;
 mod facts;
 mod final_sentences;
+mod literal_order;
 mod literal_words;
 mod needed_steps;
 mod read_sentences;

@@ -1,6 +1,6 @@
 //! What a literal says, in words.
 
-use crate::clause_meaning::order_of;
+use crate::literal_order::order_of;
 use crate::story::{Phrase, Story};
 use dimacs::Lit;
 use var_layout::candidate::Candidate;

@@ -1,9 +1,9 @@
 //! Sentences on what is read from where.
 
-use crate::clause_meaning::NotedMeaning;
 use crate::standing_sentences::SentenceEnds;
 use crate::story::{Phrase, Story};
 use crate::telling::{Conclusion, Teller};
+use clause_meaning::meaning::ClauseMeaning;
 use std::alloc::AllocError;
 use trace_semantics::operation::Origin;
 use var_layout::candidate::{Candidate, ReadsFromChoice};
@@ -44,33 +44,44 @@ impl<'t> Teller<'t> {
     /// Says a clause of what is read, or of final values.
     pub fn tell_sources(
         &mut self,
-        meaning: &NotedMeaning,
+        meaning: &ClauseMeaning,
         conclusion: Conclusion,
     ) -> Result<(), AllocError> {
         match meaning {
-            NotedMeaning::HasSource(reader) => {
+            ClauseMeaning::HasSource(reader) => {
                 self.tell_source(*reader, conclusion);
                 Ok(())
             }
-            NotedMeaning::BeforeWriter { reader, writer } => {
+            ClauseMeaning::NoSource { reader, .. } => {
+                self.tell_source(*reader, conclusion);
+                Ok(())
+            }
+            ClauseMeaning::BeforeWriter { reader, writer, .. } => {
                 self.tell_before_writer(*reader, *writer, conclusion)
             }
-            NotedMeaning::AfterSource { reader, source } => {
+            ClauseMeaning::AfterSource { reader, source, .. } => {
                 self.tell_after_source(*reader, *source, conclusion)
             }
-            NotedMeaning::NotBetween {
+            ClauseMeaning::NotBetween {
                 reader,
                 source,
                 writer,
+                ..
             } => self.tell_not_between(*reader, *source, *writer, conclusion),
-            NotedMeaning::HasLast(final_value) => {
+            ClauseMeaning::HasLast(final_value) => {
                 self.tell_last(*final_value, conclusion);
                 Ok(())
             }
-            NotedMeaning::BeforeLast { last, writer, .. } => {
+            ClauseMeaning::NoLast { final_value, .. } => {
+                self.tell_last(*final_value, conclusion);
+                Ok(())
+            }
+            ClauseMeaning::BeforeLast { last, writer, .. } => {
                 self.tell_before_last(*last, *writer, conclusion)
             }
-            _ => Ok(()),
+            ClauseMeaning::ProgramOrder(_)
+            | ClauseMeaning::NoCycle { .. }
+            | ClauseMeaning::BeforePair(_, _) => Ok(()),
         }
     }
 

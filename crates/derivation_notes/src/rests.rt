@@ -1,9 +1,10 @@
 //! On what a long derivation rests.
 
-use crate::clause_meaning::{NotedMeaning, meaning_at, order_of};
 use crate::needed_steps::NeededSteps;
 use crate::story::{Phrase, Story};
 use clause_blocks::trace_clauses::TraceClauses;
+use clause_meaning::clause_runs::ClauseRuns;
+use clause_meaning::meaning::ClauseMeaning;
 use dimacs::ClauseList;
 use note_text::{Notes, decimal};
 use std::alloc::{AllocError, Global};
@@ -41,6 +42,7 @@ impl Rests {
     pub fn of(
         alloc: Global,
         clauses: &TraceClauses,
+        meanings: &ClauseRuns<'_>,
         needed: &NeededSteps<'_>,
     ) -> Result<Rests, AllocError> {
         let mut rests = Rests {
@@ -50,7 +52,7 @@ impl Rests {
         for step in &needed.steps {
             rests.add_hints(step.hints.as_slice());
         }
-        rests.add_operations(clauses);
+        rests.add_operations(clauses, meanings);
         Ok(rests)
     }
 
@@ -66,57 +68,52 @@ impl Rests {
     }
 
     /// Marks the operations of which the marked clauses say something but that they stand in program order or in an order.
-    fn add_operations(&mut self, clauses: &TraceClauses) {
+    fn add_operations(&mut self, clauses: &TraceClauses, meanings: &ClauseRuns<'_>) {
         for place in clauses.reads_start()..clauses.count() {
             if self.clauses.get(place).copied().unwrap_or(false) {
-                self.add_clause(clauses, place);
+                if let Some(meaning) = meanings.meaning_at(place) {
+                    self.add_meaning(meaning);
+                }
             }
         }
     }
 
-    /// Marks the operations of the clause at this place.
-    fn add_clause(&mut self, clauses: &TraceClauses, place: usize) {
-        match meaning_at(clauses, place) {
-            Some(NotedMeaning::HasSource(reader)) => mark(&mut self.operations, reader),
-            Some(NotedMeaning::BeforeWriter { reader, writer }) => {
+    /// Marks the operations of which a clause says this.
+    fn add_meaning(&mut self, meaning: ClauseMeaning) {
+        match meaning {
+            ClauseMeaning::HasSource(reader) => mark(&mut self.operations, reader),
+            ClauseMeaning::NoSource { reader, .. } => mark(&mut self.operations, reader),
+            ClauseMeaning::BeforeWriter { reader, writer, .. } => {
                 mark(&mut self.operations, reader);
                 mark(&mut self.operations, writer);
             }
-            Some(NotedMeaning::AfterSource { reader, source }) => {
+            ClauseMeaning::AfterSource { reader, source, .. } => {
                 mark(&mut self.operations, reader);
                 mark(&mut self.operations, source);
             }
-            Some(
-                NotedMeaning::NotBetween {
-                    reader,
-                    source,
-                    writer,
-                },
-            ) => {
+            ClauseMeaning::NotBetween {
+                reader,
+                source,
+                writer,
+                ..
+            } => {
                 mark(&mut self.operations, reader);
                 mark(&mut self.operations, source);
                 mark(&mut self.operations, writer);
             }
-            Some(NotedMeaning::BeforeLast { last, writer, .. }) => {
+            ClauseMeaning::BeforeLast { last, writer, .. } => {
                 mark(&mut self.operations, last);
                 mark(&mut self.operations, writer);
             }
-            Some(NotedMeaning::BeforePair) => self.add_pair(clauses, place),
-            _ => {}
-        }
-    }
-
-    /// Marks the operations of the `before` line whose clause stands at this place.
-    fn add_pair(&mut self, clauses: &TraceClauses, place: usize) {
-        if place >= clauses.count() {
-            return;
-        }
-        let clause = clauses.clause(place);
-        for literal in clause.as_slice() {
-            if let Some((first, second)) = order_of(clauses.layout().operations(), *literal) {
+            ClauseMeaning::BeforePair(first, second) => {
                 mark(&mut self.operations, first);
                 mark(&mut self.operations, second);
             }
+            // What is of order alone, and which final value is meant, names no operation of its own.
+            ClauseMeaning::ProgramOrder(_)
+            | ClauseMeaning::NoCycle { .. }
+            | ClauseMeaning::HasLast(_)
+            | ClauseMeaning::NoLast { .. } => {}
         }
     }
 

@@ -1,12 +1,14 @@
 //! A derivation that is followed clause by clause, and said in sentences.
 
 use crate::chains::{chain_between, is_program_order, shortened};
-use crate::clause_meaning::{NotedMeaning, meaning_at, order_of};
 use crate::facts::{Facts, OrderReason};
+use crate::literal_order::order_of;
 use crate::literal_words::add_literal;
 use crate::needed_steps::{NeededStep, NeededSteps};
 use crate::story::{Phrase, Story};
 use clause_blocks::trace_clauses::TraceClauses;
+use clause_meaning::clause_runs::ClauseRuns;
+use clause_meaning::meaning::ClauseMeaning;
 use dimacs::{ClauseList, Lit};
 use known_literals::ClauseEffect;
 use note_text::decimal;
@@ -48,7 +50,9 @@ fn known_words(ops: &[KeptOp<'_>], first: usize, second: usize) -> &'static [u8]
 fn words_of(reason: OrderReason, ops: &[KeptOp<'_>], first: usize, second: usize) -> &'static [u8] {
     match reason {
         OrderReason::BeforePair => known_words(ops, first, second),
-        _ => b", program order",
+        OrderReason::ProgramOrder | OrderReason::Through(_) | OrderReason::Said => {
+            b", program order"
+        }
     }
 }
 
@@ -56,6 +60,7 @@ fn words_of(reason: OrderReason, ops: &[KeptOp<'_>], first: usize, second: usize
 pub struct Teller<'t> {
     alloc: Global,
     pub clauses: &'t TraceClauses,
+    meanings: ClauseRuns<'t>,
     pub story: Story<'t>,
     facts: Facts,
     said: Vec<(usize, usize)>,
@@ -67,6 +72,7 @@ impl Drop for Teller<'_> {
         let Teller {
             alloc: _,
             clauses: _,
+            meanings: _meanings,
             story: _story,
             facts: _facts,
             said: _said,
@@ -76,10 +82,16 @@ impl Drop for Teller<'_> {
 
 impl<'t> Teller<'t> {
     /// Nothing is known.
-    pub fn new(alloc: Global, clauses: &'t TraceClauses, story: Story<'t>) -> Teller<'t> {
+    pub fn new(
+        alloc: Global,
+        clauses: &'t TraceClauses,
+        meanings: ClauseRuns<'t>,
+        story: Story<'t>,
+    ) -> Teller<'t> {
         Teller {
             alloc,
             clauses,
+            meanings,
             story,
             facts: Facts::new(alloc),
             said: Vec::new(alloc),
@@ -152,7 +164,7 @@ impl<'t> Teller<'t> {
                 let short = shortened(self.alloc, self.story.ops(), chain.as_slice())?;
                 self.say_chain(short.as_slice(), b"");
             }
-            _ => {}
+            Some(OrderReason::ProgramOrder) | Some(OrderReason::Said) | None => {}
         }
         Ok(())
     }
@@ -259,19 +271,26 @@ impl<'t> Teller<'t> {
     /// Says a clause of the formula that says this, if it is one of order, and keeps an order that it concludes.
     fn tell_orders(
         &mut self,
-        meaning: NotedMeaning,
+        meaning: ClauseMeaning,
         literals: &[Lit],
         conclusion: Conclusion,
     ) -> Result<(), AllocError> {
         match meaning {
-            NotedMeaning::ProgramOrder => {
+            ClauseMeaning::ProgramOrder(_) => {
                 self.tell_order(literals, conclusion, OrderReason::ProgramOrder)
             }
-            NotedMeaning::BeforePair => {
+            ClauseMeaning::BeforePair(_, _) => {
                 self.tell_order(literals, conclusion, OrderReason::BeforePair)
             }
-            NotedMeaning::Transitivity => self.tell_transitivity(literals, conclusion),
-            _ => self.keep_order(conclusion),
+            ClauseMeaning::NoCycle { .. } => self.tell_transitivity(literals, conclusion),
+            ClauseMeaning::HasSource(_)
+            | ClauseMeaning::NoSource { .. }
+            | ClauseMeaning::BeforeWriter { .. }
+            | ClauseMeaning::AfterSource { .. }
+            | ClauseMeaning::NotBetween { .. }
+            | ClauseMeaning::HasLast(_)
+            | ClauseMeaning::NoLast { .. }
+            | ClauseMeaning::BeforeLast { .. } => self.keep_order(conclusion),
         }
     }
 
@@ -321,7 +340,7 @@ impl<'t> Teller<'t> {
             return self.tell_step(number, conclusion, unit);
         }
         let place = usize::try_from(id.saturating_sub(1)).unwrap_or(usize::MAX);
-        match meaning_at(self.clauses, place) {
+        match self.meanings.meaning_at(place) {
             Some(meaning) => {
                 self.tell_orders(meaning, literals, conclusion)?;
                 self.tell_sources(&meaning, conclusion)
