@@ -8,9 +8,10 @@ from logs.mistakes import CIRCLE, Mistake
 WAYS = ("rows", "start", "end")
 
 
-def way_of(log, wanted, with_times):
-    """By what the operations are put in order: what an option says, or else by times if the log has them."""
-    return wanted or ("end" if with_times and log.has_times else "rows")
+def way_of(log, wanted):
+    """By what the operations are put in order: what an option says, or else by times if the log has them, even if the trace gets none: a hint may be
+    wrong, and the rows of a log with times often stand thread after thread."""
+    return wanted or ("end" if log.has_times else "rows")
 
 
 def keys(log, way):
