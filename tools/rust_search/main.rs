@@ -16,7 +16,7 @@ mod source_counting;
 mod total_tables;
 
 use local_reads::ReducedLog;
-use numbered_log::{Budget, NumberedLog, NumberedOrigin, Operation};
+use numbered_log::{Budget, LocationId, NumberedLog, NumberedOrigin, Operation, OperationId, ProcessId, ProcessPlace};
 use order_certificate::{
     certificate_of_conflict, certificate_of_learning, certificate_of_takers, LogNames, NamedPlace, OrderCertificate,
 };
@@ -47,13 +47,13 @@ fn number(word: &str) -> u64 {
 }
 
 /// The operation of a line's words, on the location of this number.
-fn operation(words: &[&str], location: u32) -> Operation {
+fn operation(words: &[&str], location: LocationId) -> Operation {
     let (reads, writes) = (words[0] != "W", words[0] != "R");
     let first = number(words[2]);
     let left = if words[0] == "U" { number(words[3]) } else { first };
     Operation {
-        process: 0,
-        place: 0,
+        process: ProcessId::FIRST,
+        place: ProcessPlace::START,
         location,
         reads,
         writes,
@@ -78,7 +78,7 @@ fn locations_of(text: &str) -> Vec<&str> {
 impl<'a> Trace<'a> {
     fn of(text: &'a str) -> Trace<'a> {
         let locations = locations_of(text);
-        let numbers: HashMap<&str, u32> = locations.iter().copied().zip(0..).collect();
+        let numbers: HashMap<&str, LocationId> = locations.iter().copied().zip((0..).map(LocationId::new)).collect();
         let mut log = NumberedLog::new(Global, locations.len() as u32).expect("memory");
         let mut processes = Vec::new();
         for line in text.lines() {
@@ -106,18 +106,18 @@ impl<'a> Trace<'a> {
         Trace { log, processes, locations }
     }
 
-    fn name(&self, number: u32) -> String {
+    fn name(&self, number: OperationId) -> String {
         let operation = self.log.operation(number);
-        format!("{}.{}", self.processes[operation.process as usize], operation.place)
+        format!("{}.{}", self.processes[operation.process.number() as usize], operation.place.number())
     }
 
     /// The operations that the file names, by number.
-    fn hint(&self, file: Option<&String>) -> shim::Vec<u32> {
+    fn hint(&self, file: Option<&String>) -> shim::Vec<OperationId> {
         let mut hint = shim::Vec::new(Global);
         let Some(file) = file.filter(|word| *word != "-") else {
             return hint;
         };
-        let numbers: HashMap<String, u32> = (0..self.log.count()).map(|at| (self.name(at), at)).collect();
+        let numbers: HashMap<String, OperationId> = self.log.operation_ids().map(|at| (self.name(at), at)).collect();
         for line in fs::read_to_string(file).expect("a hint").lines() {
             if let Some(&at) = numbers.get(line.trim()) {
                 hint.push(at).expect("memory");
@@ -128,7 +128,7 @@ impl<'a> Trace<'a> {
 
     /// The text of the certificate, of the log that was made smaller.
     fn text(&self, reduced: &ReducedLog, certificate: &OrderCertificate) -> shim::Vec<u8> {
-        let kept: Vec<u32> = (0..reduced.log.count()).collect();
+        let kept: Vec<OperationId> = reduced.log.operation_ids().collect();
         let mut names = LogNames {
             processes: shim::Vec::new(Global),
             locations: shim::Vec::new(Global),

@@ -9,8 +9,8 @@ use crate::next_writers::NextWriters;
 use crate::seen_states::SeenStates;
 use crate::state::State;
 use closed_rows::ClosedRows;
-use numbered_log::{Budget, NOBODY, NumberedLog, NumberedOrigin};
-use possible_sources::ValueClasses;
+use numbered_log::{Budget, NumberedLog, NumberedOrigin, OperationId, ProcessId};
+use possible_sources::{ClassId, ValueClasses};
 use std::alloc::{AllocError, Global};
 use std::mem;
 use total_tables::{at, put, size};
@@ -73,7 +73,7 @@ pub struct BeamSearch<'a> {
     begins: Vec<u32>,
     /// For each state of each layer the number of its parent, times the number of processes, plus the process that went on.
     steps: Vec<u32>,
-    schedule: Vec<u32>,
+    schedule: Vec<OperationId>,
     most_placed: u32,
 }
 
@@ -104,7 +104,7 @@ impl Drop for BeamSearch<'_> {
 impl<'a> BeamSearch<'a> {
     /// Returns whether the tables have room for the log. An origin is not heeded, so a log that has one is not searched.
     pub fn can_search(log: &NumberedLog, classes: &ValueClasses) -> bool {
-        for number in 0..log.count() {
+        for number in log.operation_ids() {
             if !matches!(log.operation(number).origin, NumberedOrigin::Any) {
                 return false;
             }
@@ -143,7 +143,7 @@ impl<'a> BeamSearch<'a> {
     }
 
     /// The schedule that was found.
-    pub fn schedule(&self) -> &[u32] {
+    pub fn schedule(&self) -> &[OperationId] {
         self.schedule.as_slice()
     }
 
@@ -251,7 +251,7 @@ impl<'a> BeamSearch<'a> {
             }
             self.most_placed = self.most_placed.max(self.state.placed_in_all());
             budget.spend(self.looks());
-            for process in 0..self.log.processes() {
+            for process in self.log.process_ids() {
                 self.try_process(parent, process, beam, budget)?;
             }
         }
@@ -262,7 +262,7 @@ impl<'a> BeamSearch<'a> {
     fn try_process(
         &mut self,
         parent: u32,
-        process: u32,
+        process: ProcessId,
         beam: Beam,
         budget: &mut Budget,
     ) -> Result<(), AllocError> {
@@ -292,8 +292,8 @@ impl<'a> BeamSearch<'a> {
     }
 
     /// The cost of what the operation writes over in the parent, or none if that cannot be spared.
-    fn cost_over_held(&self, parent: u32, number: u32, beam: Beam) -> Option<i64> {
-        if self.classed.needed(number) != NOBODY {
+    fn cost_over_held(&self, parent: u32, number: OperationId, beam: Beam) -> Option<i64> {
+        if self.classed.needed(number) != ClassId::NONE {
             return Some(0);
         }
         let held = self.state.held(self.classed.location(number));
@@ -305,7 +305,12 @@ impl<'a> BeamSearch<'a> {
     }
 
     /// Places the process's next operation in the state at hand, and what can come then and changes nothing.
-    fn place(&mut self, process: u32, number: u32, cost: i64) -> Result<(), AllocError> {
+    fn place(
+        &mut self,
+        process: ProcessId,
+        number: OperationId,
+        cost: i64,
+    ) -> Result<(), AllocError> {
         self.state.place(&self.classed, process, number)?;
         self.state.gain = self.state.gain.wrapping_sub(cost);
         self.state.settle(&self.classed, self.rows)
@@ -329,7 +334,8 @@ impl<'a> BeamSearch<'a> {
             next.push(&self.state, self.spare.as_slice())?;
             budget.spend(self.looks().saturating_add(classes as u64));
             let parent = successor.parent.wrapping_mul(self.log.processes());
-            self.steps.push(parent.wrapping_add(successor.process))?;
+            self.steps
+                .push(parent.wrapping_add(successor.process.number()))?;
         }
         let layer = mem::replace(&mut self.layer, next);
         let entries = self.kept_entries.saturating_add(layer.entries());
@@ -346,10 +352,14 @@ impl<'a> BeamSearch<'a> {
         self.layer.load_spare(successor.parent, &mut self.spare);
         let number = self.state.next(&self.classed, successor.process);
         let mut cost = 0;
-        if self.classed.needed(number) == NOBODY {
+        if self.classed.needed(number) == ClassId::NONE {
             let held = self.state.held(self.classed.location(number));
-            let left = at(self.spare.as_slice(), held, u32::MAX);
-            put(self.spare.as_mut_slice(), held, left.wrapping_sub(1));
+            let left = at(self.spare.as_slice(), held.number(), u32::MAX);
+            put(
+                self.spare.as_mut_slice(),
+                held.number(),
+                left.wrapping_sub(1),
+            );
             cost = cost_of_loss(left, beam);
         }
         self.place(successor.process, number, cost)
@@ -364,14 +374,14 @@ impl<'a> BeamSearch<'a> {
         for layer in (1..size(self.begins.as_slice())).rev() {
             let begin = at(self.begins.as_slice(), layer, 0);
             let step = at(self.steps.as_slice(), begin.wrapping_add(state), 0);
-            ways.push(step % processes)?;
+            ways.push(ProcessId::new(step % processes))?;
             state = step / processes;
         }
         self.state = State::new(alloc, &self.classed, self.log.processes())?;
         self.state.keeps_placed = true;
         self.state.settle(&self.classed, self.rows)?;
         for entry in (0..size(ways.as_slice())).rev() {
-            let process = at(ways.as_slice(), entry, 0);
+            let process = at(ways.as_slice(), entry, ProcessId::FIRST);
             let number = self.state.next(&self.classed, process);
             self.place(process, number, 0)?;
         }

@@ -1,6 +1,8 @@
 //! The states of a layer.
 
 use crate::state::State;
+use numbered_log::ProcessPlace;
+use possible_sources::ClassId;
 use std::alloc::{AllocError, Global};
 use total_tables::{at, piece, put, size};
 
@@ -10,8 +12,8 @@ pub(crate) struct Layer {
     processes: u32,
     locations: u32,
     classes: u32,
-    fronts: Vec<u32>,
-    held: Vec<u32>,
+    fronts: Vec<ProcessPlace>,
+    held: Vec<ClassId>,
     /// For each state and class how many plain writes can still come over it.
     spare: Vec<u32>,
     gains: Vec<i64>,
@@ -34,18 +36,18 @@ impl Drop for Layer {
 }
 
 /// Copies the entries from this place of the table on.
-fn copy_out(table: &[u32], from: u32, into: &mut Vec<u32>) {
+fn copy_out<T: Copy>(table: &[T], from: u32, into: &mut Vec<T>, otherwise: T) {
     let count = size(into.as_slice());
     let entries = piece(table, from, from.saturating_add(count));
     for place in 0..size(entries) {
-        let entry = at(entries, place, 0);
+        let entry = at(entries, place, otherwise);
         put(into.as_mut_slice(), place, entry);
     }
 }
 
-fn append(table: &mut Vec<u32>, entries: &[u32]) -> Result<(), AllocError> {
-    for place in 0..size(entries) {
-        table.push(at(entries, place, 0))?;
+fn append<T: Copy>(table: &mut Vec<T>, entries: &[T]) -> Result<(), AllocError> {
+    for entry in entries {
+        table.push(*entry)?;
     }
     Ok(())
 }
@@ -91,24 +93,31 @@ impl Layer {
     /// Makes the state that of this number.
     pub(crate) fn load(&self, number: u32, state: &mut State) {
         let fronts = number.wrapping_mul(self.processes);
-        copy_out(self.fronts.as_slice(), fronts, &mut state.fronts);
+        copy_out(
+            self.fronts.as_slice(),
+            fronts,
+            &mut state.fronts,
+            ProcessPlace::START,
+        );
         let held = number.wrapping_mul(self.locations);
-        copy_out(self.held.as_slice(), held, &mut state.held);
+        copy_out(self.held.as_slice(), held, &mut state.held, ClassId::NONE);
         state.gain = at(self.gains.as_slice(), number, 0);
     }
 
     /// Makes the numbers of what can be spared those of this state.
     pub(crate) fn load_spare(&self, number: u32, spare: &mut Vec<u32>) {
         let from = number.wrapping_mul(self.classes);
-        copy_out(self.spare.as_slice(), from, spare);
+        copy_out(self.spare.as_slice(), from, spare, 0);
     }
 
     /// The number of plain writes that can still come over the class in this state. A value without a class can always be spared.
-    pub(crate) fn spare(&self, number: u32, class: u32) -> u32 {
-        if class >= self.classes {
+    pub(crate) fn spare(&self, number: u32, class: ClassId) -> u32 {
+        if class.number() >= self.classes {
             return u32::MAX;
         }
-        let entry = number.wrapping_mul(self.classes).wrapping_add(class);
+        let entry = number
+            .wrapping_mul(self.classes)
+            .wrapping_add(class.number());
         at(self.spare.as_slice(), entry, 0)
     }
 }

@@ -1,18 +1,19 @@
 //! How far it is to a writer.
 
 use crate::classed_log::ClassedLog;
-use numbered_log::{NOBODY, NumberedLog};
+use numbered_log::{NO_NUMBER, NumberedLog, ProcessId, ProcessPlace};
+use possible_sources::ClassId;
 use std::alloc::{AllocError, Global};
 use total_tables::{at, put};
 
 /// The most entries of the table. A log that needs more has no beams.
 const MOST_NEXT_WRITERS: u64 = 1 << 22;
 
-/// For each process, place and class the place of the first writer of the class from there on in the process, or `NOBODY`.
+/// For each process, place and class the place of the first writer of the class from there on in the process, or `FAR`.
 pub(crate) struct NextWriters {
     classes: u32,
     starts: Vec<u32>,
-    places: Vec<u32>,
+    places: Vec<ProcessPlace>,
 }
 
 /// Drops the tables, in one call for each exit of a function that owns them.
@@ -49,12 +50,12 @@ impl NextWriters {
         let mut next = NextWriters {
             classes,
             starts: vec![in alloc; 0; log.processes() as usize]?,
-            places: vec![in alloc; NOBODY; size as usize]?,
+            places: vec![in alloc; ProcessPlace::FAR; size as usize]?,
         };
-        for process in 0..log.processes() {
-            let start = log.start(process).wrapping_add(process);
-            put(next.starts.as_mut_slice(), process, start);
-            for place in (1..log.length(process).wrapping_add(1)).rev() {
+        for process in log.process_ids() {
+            let start = log.start(process).number().wrapping_add(process.number());
+            put(next.starts.as_mut_slice(), process.number(), start);
+            for place in log.last_place(process).down_to_first() {
                 next.note_place(classed, process, place);
             }
         }
@@ -63,44 +64,43 @@ impl NextWriters {
 
     /// The entry of the class at this place of the process, counted from 1.
     #[inline(always)]
-    fn entry(&self, process: u32, place: u32, class: u32) -> u32 {
-        let start = at(self.starts.as_slice(), process, 0);
+    fn entry(&self, process: ProcessId, place: ProcessPlace, class: ClassId) -> u32 {
+        let start = at(self.starts.as_slice(), process.number(), 0);
         start
-            .wrapping_add(place)
-            .wrapping_sub(1)
+            .wrapping_add(place.previous().number())
             .wrapping_mul(self.classes)
-            .wrapping_add(class)
+            .wrapping_add(class.number())
     }
 
     /// Notes the next writers from this place on, given those from the next one on.
-    fn note_place(&mut self, classed: &ClassedLog, process: u32, place: u32) {
-        for class in 0..self.classes {
-            let behind = self.entry(process, place.wrapping_add(1), class);
-            let next = at(self.places.as_slice(), behind, NOBODY);
+    fn note_place(&mut self, classed: &ClassedLog, process: ProcessId, place: ProcessPlace) {
+        for class in ClassId::first(self.classes) {
+            let behind = self.entry(process, place.next(), class);
+            let next = at(self.places.as_slice(), behind, ProcessPlace::FAR);
             let entry = self.entry(process, place, class);
             put(self.places.as_mut_slice(), entry, next);
         }
         let left = classed.left(classed.number(process, place));
-        if left < self.classes {
+        if left.number() < self.classes {
             let entry = self.entry(process, place, left);
             put(self.places.as_mut_slice(), entry, place);
         }
     }
 
-    /// The number of operations from this place of the process up to the first writer of the class, that one among them, or `NOBODY`.
+    /// The number of operations from this place of the process up to the first writer of the class, that one among them, or `NO_NUMBER`.
     #[inline(always)]
-    pub(crate) fn distance(&self, process: u32, place: u32, class: u32) -> u32 {
-        if class >= self.classes {
-            return NOBODY;
+    pub(crate) fn distance(&self, process: ProcessId, place: ProcessPlace, class: ClassId) -> u32 {
+        if class.number() >= self.classes {
+            return NO_NUMBER;
         }
         let next = at(
             self.places.as_slice(),
             self.entry(process, place, class),
-            NOBODY,
+            ProcessPlace::FAR,
         );
-        if next == NOBODY {
-            return NOBODY;
+        if next == ProcessPlace::FAR {
+            return NO_NUMBER;
         }
-        next.wrapping_sub(place).wrapping_add(1)
+        next.next().number().wrapping_sub(place.number())
     }
 }

@@ -2,7 +2,10 @@
 
 use crate::classed_log::ClassedLog;
 use closed_rows::ClosedRows;
-use numbered_log::NOBODY;
+use numbered_log::{
+    LocationId, LocationIds, NOBODY, OperationId, ProcessId, ProcessIds, ProcessPlace,
+};
+use possible_sources::ClassId;
 use std::alloc::{AllocError, Global};
 use total_tables::{at, put, size};
 
@@ -14,13 +17,13 @@ const UPDATE: i64 = 10;
 /// What is placed of each process, and what each location holds.
 pub(crate) struct State {
     /// For each process the place of its next operation.
-    pub(crate) fronts: Vec<u32>,
+    pub(crate) fronts: Vec<ProcessPlace>,
     /// For each location the class of what it holds.
-    pub(crate) held: Vec<u32>,
+    pub(crate) held: Vec<ClassId>,
     /// What was gained by the operations that are placed.
     pub(crate) gain: i64,
     /// The operations that were placed, in their order, if they are kept.
-    pub(crate) placed: Vec<u32>,
+    pub(crate) placed: Vec<OperationId>,
     pub(crate) keeps_placed: bool,
 }
 
@@ -45,12 +48,24 @@ impl State {
         processes: u32,
     ) -> Result<State, AllocError> {
         Ok(State {
-            fronts: vec![in alloc; 1; processes as usize]?,
+            fronts: vec![in alloc; ProcessPlace::FIRST; processes as usize]?,
             held: Vec::from_slice(alloc, log.initial())?,
             gain: 0,
             placed: Vec::new(alloc),
             keeps_placed: false,
         })
+    }
+
+    /// All processes, by rising numbers.
+    #[inline(always)]
+    pub(crate) fn process_ids(&self) -> ProcessIds {
+        ProcessId::first(self.processes())
+    }
+
+    /// All locations, by rising numbers.
+    #[inline(always)]
+    pub(crate) fn location_ids(&self) -> LocationIds {
+        LocationId::first(size(self.held.as_slice()))
     }
 
     #[inline(always)]
@@ -60,19 +75,19 @@ impl State {
 
     /// The place of the process's next operation.
     #[inline(always)]
-    pub(crate) fn front(&self, process: u32) -> u32 {
-        at(self.fronts.as_slice(), process, NOBODY)
+    pub(crate) fn front(&self, process: ProcessId) -> ProcessPlace {
+        at(self.fronts.as_slice(), process.number(), ProcessPlace::FAR)
     }
 
     /// The class of what the location holds.
     #[inline(always)]
-    pub(crate) fn held(&self, location: u32) -> u32 {
-        at(self.held.as_slice(), location, NOBODY)
+    pub(crate) fn held(&self, location: LocationId) -> ClassId {
+        at(self.held.as_slice(), location.number(), ClassId::NONE)
     }
 
     /// The process's next operation, or `NOBODY` if all are placed.
     #[inline(always)]
-    pub(crate) fn next(&self, log: &ClassedLog, process: u32) -> u32 {
+    pub(crate) fn next(&self, log: &ClassedLog, process: ProcessId) -> OperationId {
         log.number(process, self.front(process))
     }
 
@@ -82,22 +97,22 @@ impl State {
         &self,
         log: &ClassedLog,
         rows: &ClosedRows,
-        process: u32,
-        number: u32,
+        process: ProcessId,
+        number: OperationId,
     ) -> bool {
         if number == NOBODY {
             return false;
         }
         let needed = log.needed(number);
-        if needed != NOBODY && needed != self.held(log.location(number)) {
+        if needed != ClassId::NONE && needed != self.held(log.location(number)) {
             return false;
         }
         !log.is_bound(number) || self.has_all_before(rows, process, number)
     }
 
     /// Returns whether what is known to stand before the process's operation is placed.
-    fn has_all_before(&self, rows: &ClosedRows, process: u32, number: u32) -> bool {
-        for other in 0..self.processes() {
+    fn has_all_before(&self, rows: &ClosedRows, process: ProcessId, number: OperationId) -> bool {
+        for other in self.process_ids() {
             if other != process && rows.before(number, other) >= self.front(other) {
                 return false;
             }
@@ -109,17 +124,21 @@ impl State {
     pub(crate) fn place(
         &mut self,
         log: &ClassedLog,
-        process: u32,
-        number: u32,
+        process: ProcessId,
+        number: OperationId,
     ) -> Result<(), AllocError> {
-        let front = self.front(process).wrapping_add(1);
-        put(self.fronts.as_mut_slice(), process, front);
+        let front = self.front(process).next();
+        put(self.fronts.as_mut_slice(), process.number(), front);
         let left = log.left(number);
-        if left == NOBODY {
+        if left == ClassId::NONE {
             self.gain = self.gain.wrapping_add(READ);
         } else {
-            put(self.held.as_mut_slice(), log.location(number), left);
-            if log.needed(number) != NOBODY {
+            put(
+                self.held.as_mut_slice(),
+                log.location(number).number(),
+                left,
+            );
+            if log.needed(number) != ClassId::NONE {
                 self.gain = self.gain.wrapping_add(UPDATE);
             }
         }
@@ -135,7 +154,7 @@ impl State {
     pub(crate) fn settle(&mut self, log: &ClassedLog, rows: &ClosedRows) -> Result<(), AllocError> {
         for _ in 0..self.processes().wrapping_add(1) {
             let mut is_news = false;
-            for process in 0..self.processes() {
+            for process in self.process_ids() {
                 if self.settle_process(log, rows, process)? {
                     is_news = true;
                 }
@@ -152,14 +171,14 @@ impl State {
         &mut self,
         log: &ClassedLog,
         rows: &ClosedRows,
-        process: u32,
+        process: ProcessId,
     ) -> Result<bool, AllocError> {
         let mut is_news = false;
         for _ in 0..log.length(process) {
             let number = self.next(log, process);
             let needed = log.needed(number);
             let left = log.left(number);
-            let is_idle = needed != NOBODY && (left == NOBODY || left == needed);
+            let is_idle = needed != ClassId::NONE && (left == ClassId::NONE || left == needed);
             if !is_idle || !self.can_come(log, rows, process, number) {
                 break;
             }
@@ -171,14 +190,14 @@ impl State {
 
     /// Returns whether all operations are placed, and the final values are as they have to be.
     pub(crate) fn is_complete(&self, log: &ClassedLog) -> bool {
-        for process in 0..self.processes() {
-            if self.front(process) <= log.length(process) {
+        for process in self.process_ids() {
+            if self.front(process) <= log.last_place(process) {
                 return false;
             }
         }
-        for location in 0..size(self.held.as_slice()) {
+        for location in self.location_ids() {
             let last = log.last(location);
-            if last != NOBODY && last != self.held(location) {
+            if last != ClassId::NONE && last != self.held(location) {
                 return false;
             }
         }
@@ -188,8 +207,8 @@ impl State {
     /// The number of operations that are placed.
     pub(crate) fn placed_in_all(&self) -> u32 {
         let mut placed: u32 = 0;
-        for process in 0..self.processes() {
-            placed = placed.wrapping_add(self.front(process)).wrapping_sub(1);
+        for process in self.process_ids() {
+            placed = placed.wrapping_add(self.front(process).previous().number());
         }
         placed
     }
@@ -198,11 +217,11 @@ impl State {
     /// which can lose a schedule, and makes none wrong.
     pub(crate) fn mixed(&self) -> u64 {
         let mut mixed: u64 = 0x9e37_79b9_7f4a_7c15;
-        for process in 0..self.processes() {
-            mixed = mix(mixed, self.front(process));
+        for process in self.process_ids() {
+            mixed = mix(mixed, self.front(process).number());
         }
-        for location in 0..size(self.held.as_slice()) {
-            mixed = mix(mixed, self.held(location));
+        for location in self.location_ids() {
+            mixed = mix(mixed, self.held(location).number());
         }
         mixed
     }

@@ -4,7 +4,8 @@ use crate::beam::Beam;
 use crate::classed_log::ClassedLog;
 use crate::next_writers::NextWriters;
 use crate::state::State;
-use numbered_log::NOBODY;
+use numbered_log::{NO_NUMBER, NOBODY, OperationId, ProcessId};
+use possible_sources::ClassId;
 
 /// The gain of each operation that a process can do next by itself, and the most of each process that are looked at.
 const FREE: i64 = 10;
@@ -21,7 +22,7 @@ impl State {
     /// The worth of the state, or none if no schedule comes of it. A higher one is better.
     pub(crate) fn worth(&self, log: &ClassedLog, next: &NextWriters, beam: Beam) -> Option<i64> {
         let mut worth = self.gain.wrapping_sub(self.imbalance(log, beam));
-        for process in 0..self.processes() {
+        for process in self.process_ids() {
             let number = self.next(log, process);
             if number == NOBODY {
                 continue;
@@ -32,7 +33,7 @@ impl State {
                 continue;
             }
             let distance = self.nearest_writer(log, next, process, number);
-            if distance == NOBODY {
+            if distance == NO_NUMBER {
                 return None;
             }
             let cost = (distance as u64).wrapping_mul(beam.distance as u64);
@@ -42,10 +43,10 @@ impl State {
     }
 
     /// The number of operations, up to a few, that the process can do next by itself from what memory holds. The known order is not heeded.
-    fn free_operations(&self, log: &ClassedLog, process: u32) -> u32 {
+    fn free_operations(&self, log: &ClassedLog, process: ProcessId) -> u32 {
         let front = self.front(process);
         for ahead in 0..MOST_FREE {
-            let number = log.number(process, front.wrapping_add(ahead));
+            let number = log.number(process, front.ahead(ahead));
             if number == NOBODY || !self.finds_its_value(log, number, ahead) {
                 return ahead;
             }
@@ -55,34 +56,34 @@ impl State {
 
     /// Returns whether the operation finds the value that it reads once the operations of its process before it, of which this many are not
     /// placed, are placed.
-    fn finds_its_value(&self, log: &ClassedLog, number: u32, ahead: u32) -> bool {
+    fn finds_its_value(&self, log: &ClassedLog, number: OperationId, ahead: u32) -> bool {
         let needed = log.needed(number);
-        if needed == NOBODY {
+        if needed == ClassId::NONE {
             return true;
         }
         let location = log.location(number);
         for back in 1..ahead.wrapping_add(1) {
-            let earlier = number.wrapping_sub(back);
+            let earlier = number.back(back);
             let left = log.left(earlier);
-            if left != NOBODY && log.location(earlier) == location {
+            if left != ClassId::NONE && log.location(earlier) == location {
                 return left == needed;
             }
         }
         self.held(location) == needed
     }
 
-    /// The number of operations of another process up to the nearest writer of what this one's next operation reads, or `NOBODY`. It is not
+    /// The number of operations of another process up to the nearest writer of what this one's next operation reads, or `NO_NUMBER`. It is not
     /// counted through processes that wait themselves: with that beams came no further (0.44 of a log for 0.46).
     fn nearest_writer(
         &self,
         log: &ClassedLog,
         next: &NextWriters,
-        process: u32,
-        number: u32,
+        process: ProcessId,
+        number: OperationId,
     ) -> u32 {
         let needed = log.needed(number);
-        let mut nearest = NOBODY;
-        for other in 0..self.processes() {
+        let mut nearest = NO_NUMBER;
+        for other in self.process_ids() {
             if other != process {
                 nearest = nearest.min(next.distance(other, self.front(other), needed));
             }
@@ -93,12 +94,12 @@ impl State {
     /// The cost of what is left of each process: the sum of the squared differences from the mean, times the beam's cost, divided by the mean plus 4.
     fn imbalance(&self, log: &ClassedLog, beam: Beam) -> i64 {
         let mut sum: u64 = 0;
-        for process in 0..self.processes() {
+        for process in self.process_ids() {
             sum = sum.wrapping_add(self.left_of(log, process));
         }
         let mean = sum / (self.processes().max(1) as u64);
         let mut squares: u64 = 0;
-        for process in 0..self.processes() {
+        for process in self.process_ids() {
             let left = self.left_of(log, process);
             let difference = left.max(mean).wrapping_sub(left.min(mean));
             squares = squares.wrapping_add(difference.wrapping_mul(difference));
@@ -108,8 +109,8 @@ impl State {
     }
 
     /// The number of the process's operations that are not placed.
-    fn left_of(&self, log: &ClassedLog, process: u32) -> u64 {
+    fn left_of(&self, log: &ClassedLog, process: ProcessId) -> u64 {
         let end = log.length(process).wrapping_add(1);
-        end.saturating_sub(self.front(process)) as u64
+        end.saturating_sub(self.front(process).number()) as u64
     }
 }

@@ -1,6 +1,6 @@
 //! Rows of places.
 
-use numbered_log::NumberedLog;
+use numbered_log::{NumberedLog, OperationId, ProcessId, ProcessIds, ProcessPlace};
 use std::alloc::{AllocError, Global};
 use total_tables::{at, put, size};
 
@@ -8,7 +8,7 @@ use total_tables::{at, put, size};
 #[derive(Clone, Copy)]
 struct RowChange {
     index: u32,
-    old: u32,
+    old: ProcessPlace,
     is_after: bool,
 }
 
@@ -21,14 +21,14 @@ const CHANGES_OF_EACH: usize = 16;
 /// A place of a process.
 #[derive(Clone, Copy)]
 pub struct RowEntry {
-    pub process: u32,
-    pub place: u32,
+    pub process: ProcessId,
+    pub place: ProcessPlace,
 }
 
 /// No place.
 const NO_BOUND: RowEntry = RowEntry {
-    process: 0,
-    place: 0,
+    process: ProcessId::FIRST,
+    place: ProcessPlace::START,
 };
 
 /// For each operation two rows with a place for each process: the first of its operations that stands after this one, and the last one
@@ -37,9 +37,9 @@ const NO_BOUND: RowEntry = RowEntry {
 pub struct ClosedRows {
     width: u32,
     /// The place after the last where nothing stands after the operation.
-    after: Vec<u32>,
-    /// 0 where nothing stands before it.
-    before: Vec<u32>,
+    after: Vec<ProcessPlace>,
+    /// `START` where nothing stands before it.
+    before: Vec<ProcessPlace>,
     changes: Vec<RowChange>,
     /// The most changes that are kept.
     most_changes: usize,
@@ -74,8 +74,8 @@ impl ClosedRows {
         let entries = log.count().wrapping_mul(width) as usize;
         let mut rows = ClosedRows {
             width,
-            after: vec![in alloc; 0; entries]?,
-            before: vec![in alloc; 0; entries]?,
+            after: vec![in alloc; ProcessPlace::START; entries]?,
+            before: vec![in alloc; ProcessPlace::START; entries]?,
             changes: Vec::new(alloc),
             most_changes: (log.count() as usize)
                 .saturating_mul(CHANGES_OF_EACH)
@@ -84,25 +84,30 @@ impl ClosedRows {
             floors: Vec::with_capacity(alloc, width as usize)?,
             ceilings: Vec::with_capacity(alloc, width as usize)?,
         };
-        for number in 0..log.count() {
+        for number in log.operation_ids() {
             rows.set_program_order(log, number);
         }
         Ok(rows)
     }
 
-    fn set_program_order(&mut self, log: &NumberedLog, number: u32) {
+    fn set_program_order(&mut self, log: &NumberedLog, number: OperationId) {
         let operation = log.operation(number);
-        let base = number.wrapping_mul(self.width);
-        for process in 0..self.width {
-            let index = base.wrapping_add(process);
-            let mut after = log.length(process).wrapping_add(1);
+        for process in self.process_ids() {
+            let index = self.index(number, process);
+            let mut after = log.end(process);
             if process == operation.process {
-                after = operation.place.wrapping_add(1);
-                let before = operation.place.wrapping_sub(1);
+                after = operation.place.next();
+                let before = operation.place.previous();
                 put(self.before.as_mut_slice(), index, before);
             }
             put(self.after.as_mut_slice(), index, after);
         }
+    }
+
+    /// All processes, by rising numbers.
+    #[inline(always)]
+    pub fn process_ids(&self) -> ProcessIds {
+        ProcessId::first(self.width)
     }
 
     /// The number of processes.
@@ -112,25 +117,41 @@ impl ClosedRows {
     }
 
     #[inline(always)]
-    fn index(&self, number: u32, process: u32) -> u32 {
-        number.wrapping_mul(self.width).wrapping_add(process)
+    fn index(&self, number: OperationId, process: ProcessId) -> u32 {
+        number
+            .number()
+            .wrapping_mul(self.width)
+            .wrapping_add(process.number())
     }
 
     /// The place of the process's first operation that stands after this one.
     #[inline(always)]
-    pub fn after(&self, number: u32, process: u32) -> u32 {
-        at(self.after.as_slice(), self.index(number, process), 0)
+    pub fn after(&self, number: OperationId, process: ProcessId) -> ProcessPlace {
+        at(
+            self.after.as_slice(),
+            self.index(number, process),
+            ProcessPlace::START,
+        )
     }
 
-    /// The place of the process's last operation that stands before this one, or 0.
+    /// The place of the process's last operation that stands before this one, or `START`.
     #[inline(always)]
-    pub fn before(&self, number: u32, process: u32) -> u32 {
-        at(self.before.as_slice(), self.index(number, process), 0)
+    pub fn before(&self, number: OperationId, process: ProcessId) -> ProcessPlace {
+        at(
+            self.before.as_slice(),
+            self.index(number, process),
+            ProcessPlace::START,
+        )
     }
 
     /// Returns whether the first operation stands before the second.
     #[inline(always)]
-    pub fn stands_before(&self, log: &NumberedLog, first: u32, second: u32) -> bool {
+    pub fn stands_before(
+        &self,
+        log: &NumberedLog,
+        first: OperationId,
+        second: OperationId,
+    ) -> bool {
         let other = log.operation(second);
         self.after(first, other.process) <= other.place
     }
@@ -140,14 +161,14 @@ impl ClosedRows {
     pub fn begin_pair(
         &mut self,
         log: &NumberedLog,
-        first: u32,
-        second: u32,
+        first: OperationId,
+        second: OperationId,
     ) -> Result<(), AllocError> {
         self.floors.clear();
         self.ceilings.clear();
         let earlier = log.operation(first);
         let later = log.operation(second);
-        for process in 0..self.width {
+        for process in self.process_ids() {
             let mut place = self.before(first, process);
             let mut is_news = place > self.before(second, process);
             if process == earlier.process {
@@ -194,10 +215,10 @@ impl ClosedRows {
 
     /// Sets an entry of what stands before, and keeps what it was if changes are kept.
     #[inline(always)]
-    pub fn raise(&mut self, number: u32, bound: RowEntry) -> Result<(), AllocError> {
+    pub fn raise(&mut self, number: OperationId, bound: RowEntry) -> Result<(), AllocError> {
         let index = self.index(number, bound.process);
         if self.keeps_changes {
-            let old = at(self.before.as_slice(), index, 0);
+            let old = at(self.before.as_slice(), index, ProcessPlace::START);
             let is_after = false;
             self.changes.push(RowChange {
                 index,
@@ -211,10 +232,10 @@ impl ClosedRows {
 
     /// Sets an entry of what stands after, and keeps what it was if changes are kept.
     #[inline(always)]
-    pub fn lower(&mut self, number: u32, bound: RowEntry) -> Result<(), AllocError> {
+    pub fn lower(&mut self, number: OperationId, bound: RowEntry) -> Result<(), AllocError> {
         let index = self.index(number, bound.process);
         if self.keeps_changes {
-            let old = at(self.after.as_slice(), index, 0);
+            let old = at(self.after.as_slice(), index, ProcessPlace::START);
             let is_after = true;
             self.changes.push(RowChange {
                 index,
@@ -227,14 +248,14 @@ impl ClosedRows {
     }
 
     /// Sets the row of what stands before the operation to that of the one before it in its process.
-    pub fn begin_before(&mut self, log: &NumberedLog, number: u32) {
+    pub fn begin_before(&mut self, log: &NumberedLog, number: OperationId) {
         let operation = log.operation(number);
-        for process in 0..self.width {
-            let mut place = 0;
+        for process in self.process_ids() {
+            let mut place = ProcessPlace::START;
             if process == operation.process {
-                place = operation.place.wrapping_sub(1);
-            } else if operation.place > 1 {
-                place = self.before(number.wrapping_sub(1), process);
+                place = operation.place.previous();
+            } else if operation.place > ProcessPlace::FIRST {
+                place = self.before(number.previous(), process);
             }
             let index = self.index(number, process);
             put(self.before.as_mut_slice(), index, place);
@@ -242,30 +263,30 @@ impl ClosedRows {
     }
 
     /// Raises the row of what stands before the operation to that of one which stands before it, and this one's place.
-    pub fn raise_to(&mut self, log: &NumberedLog, number: u32, earlier: u32) {
+    pub fn raise_to(&mut self, log: &NumberedLog, number: OperationId, earlier: OperationId) {
         let other = log.operation(earlier);
-        for process in 0..self.width {
+        for process in self.process_ids() {
             let mut place = self.before(earlier, process);
             if process == other.process {
                 place = other.place;
             }
             let index = self.index(number, process);
-            if at(self.before.as_slice(), index, 0) < place {
+            if at(self.before.as_slice(), index, ProcessPlace::START) < place {
                 put(self.before.as_mut_slice(), index, place);
             }
         }
     }
 
     /// Sets the row of what stands after the operation to that of the one behind it in its process.
-    pub fn begin_after(&mut self, log: &NumberedLog, number: u32) {
+    pub fn begin_after(&mut self, log: &NumberedLog, number: OperationId) {
         let operation = log.operation(number);
-        let is_last = operation.place >= log.length(operation.process);
-        for process in 0..self.width {
-            let mut place = log.length(process).wrapping_add(1);
+        let is_last = operation.place >= log.last_place(operation.process);
+        for process in self.process_ids() {
+            let mut place = log.end(process);
             if process == operation.process {
-                place = operation.place.wrapping_add(1);
+                place = operation.place.next();
             } else if !is_last {
-                place = self.after(number.wrapping_add(1), process);
+                place = self.after(number.next(), process);
             }
             let index = self.index(number, process);
             put(self.after.as_mut_slice(), index, place);
@@ -273,15 +294,15 @@ impl ClosedRows {
     }
 
     /// Lowers the row of what stands after the operation to that of one which stands after it, and this one's place.
-    pub fn lower_to(&mut self, log: &NumberedLog, number: u32, later: u32) {
+    pub fn lower_to(&mut self, log: &NumberedLog, number: OperationId, later: OperationId) {
         let other = log.operation(later);
-        for process in 0..self.width {
+        for process in self.process_ids() {
             let mut place = self.after(later, process);
             if process == other.process {
                 place = other.place;
             }
             let index = self.index(number, process);
-            if at(self.after.as_slice(), index, 0) > place {
+            if at(self.after.as_slice(), index, ProcessPlace::START) > place {
                 put(self.after.as_mut_slice(), index, place);
             }
         }
@@ -315,12 +336,12 @@ impl ClosedRows {
     }
 
     /// The sum of all places of both rows, which grows along each schedule: an estimate of twice the operation's place.
-    pub fn estimate(&self, number: u32) -> u32 {
+    pub fn estimate(&self, number: OperationId) -> u32 {
         let mut sum: u32 = 0;
-        for process in 0..self.width {
+        for process in self.process_ids() {
             sum = sum
-                .wrapping_add(self.before(number, process))
-                .wrapping_add(self.after(number, process));
+                .wrapping_add(self.before(number, process).number())
+                .wrapping_add(self.after(number, process).number());
         }
         sum
     }

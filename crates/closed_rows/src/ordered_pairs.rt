@@ -1,6 +1,6 @@
 //! The pairs of which the first operation stands before the second, with their reasons.
 
-use numbered_log::NOBODY;
+use numbered_log::{NO_NUMBER, NOBODY, OperationId};
 use possible_sources::Time;
 use std::alloc::{AllocError, Global};
 use total_tables::{at, put, size};
@@ -12,13 +12,13 @@ pub enum PairReason {
     /// By the trace's times the first operation had ended before the second began.
     Timed,
     /// The first operation is the only source of this reader, or stands before all its sources, and the reader is the second.
-    BeforeReader(u32),
+    BeforeReader(OperationId),
     /// The second operation comes after all sources of this reader, which is the first, and is no read of what it reads.
-    AfterReader(u32),
+    AfterReader(OperationId),
     /// The first operation stands before this reader, and the second is its only source.
-    BeforeSource(u32),
+    BeforeSource(OperationId),
     /// The second operation is the only last writer of this final value's location.
-    BeforeLast(u32),
+    BeforeLast(OperationId),
     Decided,
     /// It is what the learned clause of this number leaves.
     Learned(u32),
@@ -29,8 +29,8 @@ pub enum PairReason {
 /// Two operations of which the first stands before the second.
 #[derive(Clone, Copy)]
 pub struct OrderedPair {
-    pub first: u32,
-    pub second: u32,
+    pub first: OperationId,
+    pub second: OperationId,
     pub reason: PairReason,
     pub time: Time,
     /// The number of decisions that stood when it was added.
@@ -46,7 +46,7 @@ pub const NO_PAIR: OrderedPair = OrderedPair {
     reason: PairReason::Given,
     time: Time::START,
     level: 0,
-    previous: NOBODY,
+    previous: NO_NUMBER,
 };
 
 /// All pairs, in the order of their times.
@@ -70,7 +70,7 @@ impl OrderedPairs {
     pub fn new(alloc: Global, operations: u32) -> Result<OrderedPairs, AllocError> {
         Ok(OrderedPairs {
             pairs: Vec::new(alloc),
-            heads: vec![in alloc; NOBODY; operations as usize]?,
+            heads: vec![in alloc; NO_NUMBER; operations as usize]?,
             most: operations.saturating_mul(PAIRS_OF_EACH).max(FEW_PAIRS),
         })
     }
@@ -78,13 +78,13 @@ impl OrderedPairs {
     /// Adds the pair.
     pub fn add(
         &mut self,
-        first: u32,
-        second: u32,
+        first: OperationId,
+        second: OperationId,
         reason: PairReason,
         at_time: (Time, u32),
     ) -> Result<(), AllocError> {
         let number = self.count();
-        let previous = at(self.heads.as_slice(), first, NOBODY);
+        let previous = at(self.heads.as_slice(), first.number(), NO_NUMBER);
         self.pairs.push(OrderedPair {
             first,
             second,
@@ -93,7 +93,7 @@ impl OrderedPairs {
             level: at_time.1,
             previous,
         })?;
-        put(self.heads.as_mut_slice(), first, number);
+        put(self.heads.as_mut_slice(), first.number(), number);
         Ok(())
     }
 
@@ -113,10 +113,10 @@ impl OrderedPairs {
         at(self.pairs.as_slice(), number, NO_PAIR)
     }
 
-    /// The number of the last pair with this first operation, or `NOBODY`.
+    /// The number of the last pair with this first operation, or `NO_NUMBER`.
     #[inline(always)]
-    pub fn last_of(&self, first: u32) -> u32 {
-        at(self.heads.as_slice(), first, NOBODY)
+    pub fn last_of(&self, first: OperationId) -> u32 {
+        at(self.heads.as_slice(), first.number(), NO_NUMBER)
     }
 
     /// Takes pairs away, the last first, until this number is left.
@@ -125,7 +125,11 @@ impl OrderedPairs {
             let Some(pair) = self.pairs.pop() else {
                 break;
             };
-            put(self.heads.as_mut_slice(), pair.first, pair.previous);
+            put(
+                self.heads.as_mut_slice(),
+                pair.first.number(),
+                pair.previous,
+            );
         }
     }
 }

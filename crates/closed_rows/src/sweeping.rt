@@ -2,7 +2,7 @@
 
 use crate::closed_rows::ClosedRows;
 use crate::ordered_pairs::OrderedPairs;
-use numbered_log::{NOBODY, NumberedLog};
+use numbered_log::{NO_NUMBER, NOBODY, NumberedLog, OperationId, ProcessId, ProcessPlace};
 use std::alloc::{AllocError, Global};
 use total_tables::{at, put, size};
 
@@ -17,16 +17,16 @@ pub enum Sweeps {
 
 /// A sweep over the operations in an order in which each comes behind all that stand before it.
 struct Sweep {
-    /// For each operation the last pair of which it is the second, or `NOBODY`.
+    /// For each operation the last pair of which it is the second, or `NO_NUMBER`.
     heads: Vec<u32>,
     /// For each pair the one before it with the same second operation.
     next: Vec<u32>,
     /// For each process the place of its next operation.
-    fronts: Vec<u32>,
+    fronts: Vec<ProcessPlace>,
     /// For each process the operation that its next one waits for, or `NOBODY`: one look says whether it still has to wait.
-    awaited: Vec<u32>,
+    awaited: Vec<OperationId>,
     /// The operations that were passed.
-    passed: Vec<u32>,
+    passed: Vec<OperationId>,
 }
 
 /// Drops each table, in one call for each exit of a function that owns a sweep.
@@ -46,39 +46,49 @@ impl Sweep {
     fn new(alloc: Global, log: &NumberedLog, pairs: &OrderedPairs) -> Result<Sweep, AllocError> {
         let processes = log.processes() as usize;
         let mut sweep = Sweep {
-            heads: vec![in alloc; NOBODY; log.count() as usize]?,
-            next: vec![in alloc; NOBODY; pairs.count() as usize]?,
-            fronts: vec![in alloc; 1; processes]?,
+            heads: vec![in alloc; NO_NUMBER; log.count() as usize]?,
+            next: vec![in alloc; NO_NUMBER; pairs.count() as usize]?,
+            fronts: vec![in alloc; ProcessPlace::FIRST; processes]?,
             awaited: vec![in alloc; NOBODY; processes]?,
             passed: Vec::with_capacity(alloc, log.count() as usize)?,
         };
         for number in 0..pairs.count() {
             let second = pairs.pair(number).second;
-            let head = at(sweep.heads.as_slice(), second, NOBODY);
+            let head = at(sweep.heads.as_slice(), second.number(), NO_NUMBER);
             put(sweep.next.as_mut_slice(), number, head);
-            put(sweep.heads.as_mut_slice(), second, number);
+            put(sweep.heads.as_mut_slice(), second.number(), number);
         }
         Ok(sweep)
     }
 
+    /// The place of the process's next operation.
     #[inline(always)]
-    fn has_passed(&self, log: &NumberedLog, number: u32) -> bool {
+    fn front(&self, process: ProcessId) -> ProcessPlace {
+        at(
+            self.fronts.as_slice(),
+            process.number(),
+            ProcessPlace::START,
+        )
+    }
+
+    #[inline(always)]
+    fn has_passed(&self, log: &NumberedLog, number: OperationId) -> bool {
         let operation = log.operation(number);
-        at(self.fronts.as_slice(), operation.process, 0) > operation.place
+        self.front(operation.process) > operation.place
     }
 
     /// An operation that stands before this one by a pair and was not passed yet, or `NOBODY`.
-    fn missing(&self, log: &NumberedLog, pairs: &OrderedPairs, number: u32) -> u32 {
-        let mut pair = at(self.heads.as_slice(), number, NOBODY);
+    fn missing(&self, log: &NumberedLog, pairs: &OrderedPairs, number: OperationId) -> OperationId {
+        let mut pair = at(self.heads.as_slice(), number.number(), NO_NUMBER);
         for _ in 0..pairs.count() {
-            if pair == NOBODY {
+            if pair == NO_NUMBER {
                 break;
             }
             let first = pairs.pair(pair).first;
             if !self.has_passed(log, first) {
                 return first;
             }
-            pair = at(self.next.as_slice(), pair, NOBODY);
+            pair = at(self.next.as_slice(), pair, NO_NUMBER);
         }
         NOBODY
     }
@@ -89,16 +99,16 @@ impl Sweep {
         log: &NumberedLog,
         pairs: &OrderedPairs,
         rows: &mut ClosedRows,
-        number: u32,
+        number: OperationId,
     ) {
         rows.begin_before(log, number);
-        let mut pair = at(self.heads.as_slice(), number, NOBODY);
+        let mut pair = at(self.heads.as_slice(), number.number(), NO_NUMBER);
         for _ in 0..pairs.count() {
-            if pair == NOBODY {
+            if pair == NO_NUMBER {
                 break;
             }
             rows.raise_to(log, number, pairs.pair(pair).first);
-            pair = at(self.next.as_slice(), pair, NOBODY);
+            pair = at(self.next.as_slice(), pair, NO_NUMBER);
         }
     }
 
@@ -108,24 +118,24 @@ impl Sweep {
         log: &NumberedLog,
         pairs: &OrderedPairs,
         rows: &mut ClosedRows,
-        process: u32,
+        process: ProcessId,
     ) -> Result<bool, AllocError> {
-        let awaited = at(self.awaited.as_slice(), process, NOBODY);
+        let awaited = at(self.awaited.as_slice(), process.number(), NOBODY);
         if awaited != NOBODY && !self.has_passed(log, awaited) {
             return Ok(false);
         }
-        let begin = at(self.fronts.as_slice(), process, 0);
+        let begin = self.front(process);
         let mut passes = false;
-        for place in begin..log.length(process).wrapping_add(1) {
+        for place in begin.up_to(log.end(process)) {
             let number = log.number(process, place);
             let missing = self.missing(log, pairs, number);
-            put(self.awaited.as_mut_slice(), process, missing);
+            put(self.awaited.as_mut_slice(), process.number(), missing);
             if missing != NOBODY {
                 break;
             }
             self.make_row(log, pairs, rows, number);
             self.passed.push(number)?;
-            put(self.fronts.as_mut_slice(), process, place.wrapping_add(1));
+            put(self.fronts.as_mut_slice(), process.number(), place.next());
             passes = true;
         }
         Ok(passes)
@@ -140,7 +150,7 @@ impl Sweep {
     ) -> Result<(), AllocError> {
         for _ in 0..log.count() {
             let mut passes = false;
-            for process in 0..log.processes() {
+            for process in log.process_ids() {
                 passes |= self.pass_process(log, pairs, rows, process)?;
             }
             if !passes {
@@ -156,7 +166,7 @@ impl Sweep {
             rows.begin_after(log, *number);
             let mut pair = pairs.last_of(*number);
             for _ in 0..pairs.count() {
-                if pair == NOBODY {
+                if pair == NO_NUMBER {
                     break;
                 }
                 let met = pairs.pair(pair);

@@ -2,7 +2,7 @@
 ghost use Rattle.clap.specs.Walk.{texts};
 ghost use Rattle.command_host.specs.Streams.{sink_view, source_view};
 ghost use Rattle.command_line.specs.CommandLine.{IsWithinRanges, is_explained};
-ghost use Rattle.command_run.specs.CommandRun.{EndsAsked, EndsDrawn, EndsLine, EndsWords, ExplainsFault, ReportsFault};
+ghost use Rattle.command_run.specs.CommandRun.{EndsAsked, EndsDrawn, EndsWords, ExplainsFault, ReportsFault};
 ghost use Rattle.command_run.specs.ExitStatus.{IsExitStatus};
 ghost use Rattle.verdict_report.specs.declared.fault.Fault.TheVariants.{Device};
 ghost use Rattle.verdict_report.specs.Runs.{sink_run};
@@ -121,40 +121,14 @@ fn run_drawn<'p, R: Threads + Wait + Sync, G: Gate + Sync, H: Host<'p>, O: Sink 
     status
 }
 
-/// Does what the line asks for, and gives the exit status. A line of which two files are one that have to be apart is refused.
-fn run_line<'p, R: Threads + Wait + Sync, G: Gate + Sync, H: Host<'p>, O: Sink + Recalls, E: Sink>(
-    alloc: Global,
-    rt: &R,
-    progress: &G,
-    host: &mut H,
-    asked: &CommandLine<'p>,
-    is_terminal: bool,
-    out: &mut O,
-    err: &mut E,
-) -> u8
-    requires { IsWithinRanges asked.now.line }
-    ensures ends { EndsLine H.calls (source_view H.Input.handed_out H.Input.is_at_end H.Input.failures H.Input.path)
-        (sink_view H.Output.written H.Output.failures H.Output.path)
-        is_terminal host.old asked.now
-        (sink_run O.written O.failures out.old out.new)
-        (sink_run E.written E.failures err.old err.new)
-        result host.new }
-    ensures known { IsExitStatus result }
-{
-    match clash_of(host, asked) {
-        Some(clash) => print_clash(clash, err),
-        None => run_drawn(alloc, rt, progress, host, asked, is_terminal, out, err),
-    }
-}
-
 /// Does what the words of a command line ask for, of which the first is the program's name, and gives the exit status.
 ///
-/// The engine that the words name is run on the files at their paths and with their options. Standard output takes what the engine
-/// writes, standard error the line of a refusal, and nothing else goes to either of them. With `--progress` the gate `progress` is
-/// called before and after each cube, and what it writes to standard error it writes by itself. With `--explain`, or if standard error is a
-/// terminal, it then takes an explanation, and with `--picture` a further file takes a picture after CONSISTENT or INCONSISTENT; of what
-/// these two are, nothing is said. Of words that ask for nothing, standard output takes the help or the version, or standard error what is
-/// wrong with them.
+/// The engine that the words name is run on the files at their paths and with their options. Standard output takes what the engine writes,
+/// standard error the line of a refusal, and nothing else goes to either of them. With `--progress` the gate `progress` is called before
+/// and after each cube, and what it writes to standard error it writes by itself. With `--explain`, or if standard error is a terminal, it
+/// then takes an explanation, and with `--picture` a further file takes a picture after CONSISTENT or INCONSISTENT; of what these two are,
+/// nothing is said. A line of which two files are one that have to be apart is refused. Of words that ask for nothing, standard output
+/// takes the help or the version, or standard error what is wrong with them.
 pub fn run<'p, R: Threads + Wait + Sync, G: Gate + Sync, H: Host<'p>, O: Sink + Recalls, E: Sink>(
     alloc: Global,
     rt: &R,
@@ -174,7 +148,10 @@ pub fn run<'p, R: Threads + Wait + Sync, G: Gate + Sync, H: Host<'p>, O: Sink + 
     ensures known { IsExitStatus result }
 {
     match read_line(alloc, words) {
-        Ok(asked) => run_line(alloc, rt, progress, host, &asked, is_terminal, out, err),
+        Ok(asked) => match clash_of(host, &asked) {
+            Some(clash) => print_clash(clash, err),
+            None => run_drawn(alloc, rt, progress, host, &asked, is_terminal, out, err),
+        },
         Err(fault) => tell_line_fault(alloc, &fault, out, err),
     }
 }

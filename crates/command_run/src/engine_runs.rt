@@ -2,7 +2,7 @@
 ghost use Rattle.std.specs.Prelude.{◌≤◌};
 ghost use Rattle.command_host.specs.Streams.{sink_view, source_view};
 ghost use Rattle.command_line.specs.CommandLine.{IsWithinRanges};
-ghost use Rattle.command_run.specs.CommandRun.{RunsCertified, RunsLine, RunsOnFile, RunsOnFiles, RunsOnThreeFiles, RunsRecheck, RunsSearch, RunsVerify};
+ghost use Rattle.command_run.specs.CommandRun.{RunsCertified, RunsLine, RunsOnFile, RunsOnFiles, RunsOnThreeFiles, RunsSearch};
 ghost use Rattle.part_report.specs.PartEngine.{IsRunOfPart};
 ghost use Rattle.part_report.specs.PartRecheckEngine.{IsRunOfPartRecheck};
 ghost use Rattle.verdict_report.specs.CnfEngine.{IsRunOfCnf};
@@ -12,12 +12,13 @@ ghost use Rattle.verdict_report.specs.LratEngine.{IsRunOfLrat};
 ghost use Rattle.verdict_report.specs.RecheckEngine.{IsRunOfRecheck};
 ghost use Rattle.verdict_report.specs.Runs.{sink_run};
 
+use crate::asked_gate::AskedGate;
 use crate::batch_runs::batch_of;
 use crate::formed_runs::decide_batch;
 use crate::kept_run::KeptRun;
 use crate::opening::open;
 use crate::refusals::write_refusals;
-use crate::search_runs::{certify, decide, search_of, survey_of};
+use crate::search_runs::{search_of, survey_of};
 use crate::survey_runs::survey_file;
 use command_host::{Host, Recorder, SearchRequest};
 use command_line::Line;
@@ -27,7 +28,10 @@ use part_report::{run_part, run_part_recheck};
 use std::alloc::Global;
 use std::sync::Wait;
 use std::thread::Threads;
-use verdict_report::{Fault, Status, run_cnf, run_decode, run_judge, run_lrat, run_recheck};
+use verdict_report::{
+    Fault, Status, run_certified_verify, run_cnf, run_decode, run_judge, run_lrat, run_recheck,
+    run_verify,
+};
 
 /// Judges the files at these paths, and writes the answer to the standard output.
 fn judge_files<'p, H: Host<'p>, W: Sink>(
@@ -154,25 +158,6 @@ fn recheck_part_files<'p, H: Host<'p>, W: Sink>(
     outcome
 }
 
-/// Checks the certificate, for the trace itself or for a part of it.
-fn recheck_any<'p, H: Host<'p>, W: Sink>(
-    alloc: Global,
-    host: &mut H,
-    trace: &'p str,
-    cert: &'p str,
-    part: Option<&'p str>,
-    out: &mut W,
-    kept: &mut KeptRun,
-) -> Result<Status, Fault>
-    ensures { RunsRecheck H.calls (source_view H.Input.handed_out H.Input.is_at_end H.Input.failures H.Input.path)
-        host.old trace.now cert.now part.entry (sink_run W.written W.failures out.old out.new) result host.new }
-{
-    match part {
-        Some(names) => recheck_part_files(alloc, host, trace, cert, names, out, kept),
-        None => recheck_files(alloc, host, trace, cert, out, kept),
-    }
-}
-
 /// Writes the part of the trace in one file that the operations make up which the other names to the standard output.
 fn part_files<'p, H: Host<'p>, W: Sink>(
     alloc: Global,
@@ -194,7 +179,8 @@ fn part_files<'p, H: Host<'p>, W: Sink>(
     outcome
 }
 
-/// Decides whether the trace in the file at this path has a legal schedule, and writes the report to the standard output.
+/// Decides whether the trace in the file at this path has a legal schedule, and writes the report to the standard output. The search is reported to
+/// the host.
 fn decide_file<'p, R: Threads + Wait + Sync, G: Gate + Sync, H: Host<'p>, W: Sink>(
     alloc: Global,
     rt: &R,
@@ -209,7 +195,9 @@ fn decide_file<'p, R: Threads + Wait + Sync, G: Gate + Sync, H: Host<'p>, W: Sin
         host.old trace.now search.now (sink_run W.written W.failures out.old out.new) result host.new }
 {
     let mut trace = open(alloc, host, trace, kept.keeps);
-    let outcome = decide(alloc, rt, progress, host, &mut trace, search, out);
+    host.begin_search(search);
+    let gate = AskedGate::new(progress, search.tells_progress);
+    let outcome = run_verify(alloc, rt, &mut trace, &search.options, &gate, out);
     kept.first = trace.into_text();
     outcome
 }
@@ -235,35 +223,21 @@ fn certify_file<'p, R: Threads + Wait + Sync, G: Gate + Sync, H: Host<'p>, W: Si
     };
     let mut trace = open(alloc, host, trace, kept.keeps);
     let mut file = Recorder::counting(alloc, file);
-    let outcome = certify(
-        alloc, rt, progress, host, &mut trace, search, &mut file, out,
+    host.begin_search(search);
+    let gate = AskedGate::new(progress, search.tells_progress);
+    let outcome = run_certified_verify(
+        alloc,
+        rt,
+        &mut trace,
+        &search.options,
+        &gate,
+        &mut file,
+        out,
     );
     kept.first = trace.into_text();
     kept.certificate_length = Some(file.taken());
     host.close(file.into_sink());
     outcome
-}
-
-/// Decides whether the trace in the file at this path has a legal schedule, and writes the certificate to a file if one is asked for.
-fn verify_file<'p, R: Threads + Wait + Sync, G: Gate + Sync, H: Host<'p>, W: Sink>(
-    alloc: Global,
-    rt: &R,
-    progress: &G,
-    host: &mut H,
-    trace: &'p str,
-    cert: Option<&'p str>,
-    search: &SearchRequest,
-    out: &mut W,
-    kept: &mut KeptRun,
-) -> Result<Status, Fault>
-    ensures { RunsVerify H.calls (source_view H.Input.handed_out H.Input.is_at_end H.Input.failures H.Input.path)
-        (sink_view H.Output.written H.Output.failures H.Output.path)
-        host.old trace.now cert.entry search.now (sink_run W.written W.failures out.old out.new) result host.new }
-{
-    match cert {
-        Some(cert) => certify_file(alloc, rt, progress, host, trace, cert, search, out, kept),
-        None => decide_file(alloc, rt, progress, host, trace, search, out, kept),
-    }
 }
 
 /// Runs the engine that the line names. What is kept of the run goes to `kept`.
@@ -291,9 +265,10 @@ pub(crate) fn run_engine<'p, R: Threads + Wait + Sync, G: Gate + Sync, H: Host<'
         ),
         Line::Decode { trace, model } => decode_files(alloc, host, *trace, *model, out, kept),
         Line::Lrat { cnf, proof } => check_files(alloc, host, *cnf, *proof, out, kept),
-        Line::Recheck { trace, cert, part } => recheck_any(
-            alloc, host, *trace, *cert, *part, out, kept,
-        ),
+        Line::Recheck { trace, cert, part } => match *part {
+            Some(names) => recheck_part_files(alloc, host, *trace, *cert, names, out, kept),
+            None => recheck_files(alloc, host, *trace, *cert, out, kept),
+        },
         Line::Part {
             trace,
             names,
@@ -306,7 +281,12 @@ pub(crate) fn run_engine<'p, R: Threads + Wait + Sync, G: Gate + Sync, H: Host<'
             progress: tells_progress,
         } => {
             let search = search_of(*numbers, *tells_progress);
-            verify_file(alloc, rt, progress, host, *trace, *cert, &search, out, kept)
+            match *cert {
+                Some(cert) => certify_file(
+                    alloc, rt, progress, host, *trace, cert, &search, out, kept,
+                ),
+                None => decide_file(alloc, rt, progress, host, *trace, &search, out, kept),
+            }
         }
         Line::Survey {
             trace,

@@ -1,12 +1,10 @@
 //! The engine that decides long traces, on a trace that is open and on a hint, or on none.
 //!
 //! There are two engines: the one that writes a certificate, and the one that does not.
-ghost use Rattle.std.specs.Prelude.{◌≡◌, Ok};
+ghost use Rattle.std.specs.Prelude.{◌≡◌};
 ghost use Rattle.command_host.specs.Streams.{source_view};
 ghost use Rattle.command_run.specs.CommandRun.{CertifiesHinted, SurveysHinted};
-ghost use Rattle.survey_report.specs.SurveyEngine.{IsRunOfCertifiedSurvey, IsRunOfSurvey, TellsExtent};
 ghost use Rattle.verdict_report.specs.Runs.{source_run, sink_run};
-ghost use Rattle.verdict_report.specs.declared.status.Status.TheVariants.{Unknown};
 
 use crate::asked_gate::AskedGate;
 use crate::asked_text::open_asked;
@@ -28,90 +26,7 @@ fn surveyor_of(search: &SearchRequest) -> BySaturation {
     }
 }
 
-/// Reports the survey to the host, and runs the engine that decides long traces with it: with the gate `progress` if the progress is
-/// wanted, and with one that does nothing if not.
-fn survey<'p, R: Threads + Wait + Sync, G: Gate + Sync, H: Host<'p>, T: Source, U: Source, W: Sink>(
-    alloc: Global,
-    rt: &R,
-    progress: &G,
-    host: &mut H,
-    trace: &mut T,
-    hint: &mut U,
-    search: &SearchRequest,
-    out: &mut W,
-) -> Result<Status, Fault>
-    ensures searches { H.calls.searches host.old search.now host.new }
-    ensures run { IsRunOfSurvey
-        (source_run T.handed_out T.is_at_end T.failures trace.old trace.new)
-        (source_run U.handed_out U.is_at_end U.failures hint.old hint.new)
-        (sink_run W.written W.failures out.old out.new)
-        result }
-    ensures unknown { result ≡ Ok Unknown → TellsExtent search.now.options
-        (source_run T.handed_out T.is_at_end T.failures trace.old trace.new)
-        (sink_run W.written W.failures out.old out.new) }
-    ensures same_trace { T.path trace.new ≡ T.path trace.old }
-    ensures same_hint { U.path hint.new ≡ U.path hint.old }
-{
-    host.begin_search(search);
-    let surveyor = surveyor_of(search);
-    let options = &search.options;
-    let gate = AskedGate::new(progress, search.tells_progress);
-    run_survey(alloc, rt, trace, hint, &surveyor, options, &gate, out)
-}
-
-/// Does what [`survey`] does, with a certificate, the names of a core, and its part.
-fn certify<
-    'p,
-    R: Threads + Wait + Sync,
-    G: Gate + Sync,
-    H: Host<'p>,
-    T: Source,
-    U: Source,
-    C: Sink,
-    N: Sink,
-    P: Sink,
-    W: Sink,
->(
-    alloc: Global,
-    rt: &R,
-    progress: &G,
-    host: &mut H,
-    trace: &mut T,
-    hint: &mut U,
-    search: &SearchRequest,
-    cert: &mut C,
-    names: &mut N,
-    part: &mut P,
-    out: &mut W,
-) -> Result<Status, Fault>
-    ensures searches { H.calls.searches host.old search.now host.new }
-    ensures run { IsRunOfCertifiedSurvey
-        (source_run T.handed_out T.is_at_end T.failures trace.old trace.new)
-        (source_run U.handed_out U.is_at_end U.failures hint.old hint.new)
-        (sink_run C.written C.failures cert.old cert.new)
-        (sink_run N.written N.failures names.old names.new)
-        (sink_run P.written P.failures part.old part.new)
-        (sink_run W.written W.failures out.old out.new)
-        result }
-    ensures unknown { result ≡ Ok Unknown → TellsExtent search.now.options
-        (source_run T.handed_out T.is_at_end T.failures trace.old trace.new)
-        (sink_run W.written W.failures out.old out.new) }
-    ensures same_trace { T.path trace.new ≡ T.path trace.old }
-    ensures same_hint { U.path hint.new ≡ U.path hint.old }
-    ensures same_cert { C.path cert.new ≡ C.path cert.old }
-    ensures same_names { N.path names.new ≡ N.path names.old }
-    ensures same_part { P.path part.new ≡ P.path part.old }
-{
-    host.begin_search(search);
-    let surveyor = surveyor_of(search);
-    let options = &search.options;
-    let gate = AskedGate::new(progress, search.tells_progress);
-    run_certified_survey(
-        alloc, rt, trace, hint, &surveyor, options, &gate, cert, names, part, out,
-    )
-}
-
-/// Does what [`survey`] does, with the hint in a file if there is a path for it.
+/// Reports the survey to the host, and runs the engine that decides long traces with it, with the hint in a file if there is a path for it.
 pub(crate) fn survey_with<
     'p,
     R: Threads + Wait + Sync,
@@ -136,12 +51,16 @@ pub(crate) fn survey_with<
     ensures same_trace { T.path trace.new ≡ T.path trace.old }
 {
     let mut hint = open_asked(alloc, host, path, kept.keeps);
-    let outcome = survey(alloc, rt, progress, host, trace, &mut hint, search, out);
+    host.begin_search(search);
+    let surveyor = surveyor_of(search);
+    let options = &search.options;
+    let gate = AskedGate::new(progress, search.tells_progress);
+    let outcome = run_survey(alloc, rt, trace, &mut hint, &surveyor, options, &gate, out);
     kept.second = hint.into_text();
     outcome
 }
 
-/// Does what [`certify`] does, with the hint in a file if there is a path for it.
+/// Does so with a certificate, the names of a core, and its part.
 pub(crate) fn certify_with<
     'p,
     R: Threads + Wait + Sync,
@@ -179,8 +98,12 @@ pub(crate) fn certify_with<
     ensures same_part { P.path part.new ≡ P.path part.old }
 {
     let mut hint = open_asked(alloc, host, path, kept.keeps);
-    let outcome = certify(
-        alloc, rt, progress, host, trace, &mut hint, search, cert, names, part, out,
+    host.begin_search(search);
+    let surveyor = surveyor_of(search);
+    let options = &search.options;
+    let gate = AskedGate::new(progress, search.tells_progress);
+    let outcome = run_certified_survey(
+        alloc, rt, trace, &mut hint, &surveyor, options, &gate, cert, names, part, out,
     );
     kept.second = hint.into_text();
     outcome

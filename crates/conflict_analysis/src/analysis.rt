@@ -5,7 +5,7 @@ use crate::learned_clauses::{LearnedClauses, Literal};
 use crate::pair_cycle::pairs_of_cycle;
 use crate::way_search::{WayQuestion, WaySearch};
 use closed_rows::OrderedPair;
-use numbered_log::NOBODY;
+use numbered_log::{NO_NUMBER, NOBODY, OperationId};
 use order_propagation::{Conflict, Propagation};
 use possible_sources::Time;
 use std::alloc::{AllocError, Global};
@@ -64,7 +64,7 @@ pub struct Analysis {
     pub(crate) asks_all: bool,
     /// For each operation whether it was named, and those that were.
     pub(crate) is_named: Vec<bool>,
-    named: Vec<u32>,
+    named: Vec<OperationId>,
     /// The learned clauses that were used.
     pub(crate) used: Vec<u32>,
     /// The marked pairs of no decision.
@@ -139,11 +139,11 @@ impl Analysis {
         self.literals.clear();
         self.turn = self.turn.wrapping_add(1);
         self.highest = 0;
-        self.top = NOBODY;
+        self.top = NO_NUMBER;
         self.left_at_top = 0;
         self.asks_all = false;
         for operation in self.named.as_slice() {
-            put(self.is_named.as_mut_slice(), *operation, false);
+            put(self.is_named.as_mut_slice(), operation.number(), false);
         }
         self.named.clear();
         self.used.clear();
@@ -156,9 +156,9 @@ impl Analysis {
     }
 
     /// Names the operation as one that the conflict rests on. A number of no operation is none.
-    pub fn name(&mut self, operation: u32) -> Result<(), AllocError> {
-        if !at(self.is_named.as_slice(), operation, true) {
-            put(self.is_named.as_mut_slice(), operation, true);
+    pub fn name(&mut self, operation: OperationId) -> Result<(), AllocError> {
+        if !at(self.is_named.as_slice(), operation.number(), true) {
+            put(self.is_named.as_mut_slice(), operation.number(), true);
             self.named.push(operation)?;
         }
         Ok(())
@@ -216,8 +216,8 @@ impl Analysis {
     pub fn ask(
         &mut self,
         order: &Propagation<'_>,
-        first: u32,
-        second: u32,
+        first: OperationId,
+        second: OperationId,
         time: Time,
     ) -> Result<(), AllocError> {
         let earlier = order.log().operation(first);
@@ -245,8 +245,9 @@ impl Analysis {
     fn is_answered(&mut self, question: WayQuestion) -> bool {
         let mixed = question
             .first
+            .number()
             .wrapping_mul(2_654_435_761)
-            .wrapping_add(question.second.wrapping_mul(2_654_404_609));
+            .wrapping_add(question.second.number().wrapping_mul(2_654_404_609));
         let slot = (mixed >> 8) & KEPT_ANSWERS.wrapping_sub(1);
         let kept = at(self.answered.as_slice(), slot, NO_ANSWER);
         if kept.turn == self.turn

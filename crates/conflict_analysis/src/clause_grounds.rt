@@ -1,17 +1,18 @@
 //! What learned clauses rest on.
 
+use numbered_log::OperationId;
 use std::alloc::{AllocError, Global};
 use total_tables::{at, piece, size};
 
 /// Lists, one behind the other in one table, since a walk may learn 200,000 clauses.
-pub(crate) struct GroundLists {
-    entries: Vec<u32>,
+pub(crate) struct GroundLists<T: Copy> {
+    entries: Vec<T>,
     /// The place at which the first list begins, and for each list the place behind it.
     ends: Vec<u32>,
 }
 
 /// Drops both tables, in one call for each exit of a function that owns lists.
-impl Drop for GroundLists {
+impl<T: Copy> Drop for GroundLists<T> {
     fn drop(self) {
         let GroundLists {
             entries: _entries,
@@ -20,15 +21,15 @@ impl Drop for GroundLists {
     }
 }
 
-impl GroundLists {
-    fn new(alloc: Global) -> Result<GroundLists, AllocError> {
+impl<T: Copy> GroundLists<T> {
+    fn new(alloc: Global) -> Result<GroundLists<T>, AllocError> {
         Ok(GroundLists {
             entries: Vec::new(alloc),
             ends: vec![in alloc; 0; 1]?,
         })
     }
 
-    fn add(&mut self, list: &[u32]) -> Result<(), AllocError> {
+    fn add(&mut self, list: &[T]) -> Result<(), AllocError> {
         for entry in list {
             self.entries.push(*entry)?;
         }
@@ -52,7 +53,7 @@ impl GroundLists {
         self.begin(number.wrapping_add(1))
     }
 
-    pub(crate) fn list(&self, number: u32) -> &[u32] {
+    pub(crate) fn list(&self, number: u32) -> &[T] {
         piece(
             self.entries.as_slice(),
             self.begin(number),
@@ -60,8 +61,8 @@ impl GroundLists {
         )
     }
 
-    pub(crate) fn entry(&self, place: u32) -> u32 {
-        at(self.entries.as_slice(), place, 0)
+    pub(crate) fn entry(&self, place: u32, otherwise: T) -> T {
+        at(self.entries.as_slice(), place, otherwise)
     }
 }
 
@@ -70,9 +71,9 @@ const MOST_ENTRIES: u32 = 1 << 21;
 
 /// For each learned clause what its derivation rests on: the operations that it names, the clauses that it uses, and pairs of no decision.
 pub(crate) struct ClauseGrounds {
-    pub(crate) operations: GroundLists,
-    pub(crate) clauses: GroundLists,
-    pub(crate) pairs: GroundLists,
+    pub(crate) operations: GroundLists<OperationId>,
+    pub(crate) clauses: GroundLists<u32>,
+    pub(crate) pairs: GroundLists<u32>,
     count: u32,
     is_whole: bool,
 }
@@ -115,7 +116,7 @@ impl ClauseGrounds {
     /// Adds the grounds of the next clause, if there is room.
     pub(crate) fn add(
         &mut self,
-        operations: &[u32],
+        operations: &[OperationId],
         clauses: &[u32],
         pairs: &[u32],
     ) -> Result<(), AllocError> {

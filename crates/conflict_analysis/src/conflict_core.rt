@@ -3,6 +3,7 @@
 use crate::analysis::Analysis;
 use crate::learned_clauses::LearnedClauses;
 use crate::learning::Learning;
+use numbered_log::{NOBODY, OperationId};
 use order_propagation::Propagation;
 use std::alloc::{AllocError, Global};
 use total_tables::{at, put, size};
@@ -11,7 +12,7 @@ use total_tables::{at, put, size};
 pub fn core_of_conflict(
     alloc: Global,
     order: &mut Propagation<'_>,
-) -> Result<Option<Vec<u32>>, AllocError> {
+) -> Result<Option<Vec<OperationId>>, AllocError> {
     let mut learning = Learning::new(alloc, order.log().count())?;
     learning.core_of_conflict(alloc, order)
 }
@@ -25,7 +26,7 @@ impl Analysis {
         alloc: Global,
         order: &Propagation<'_>,
         clauses: &LearnedClauses,
-    ) -> Result<Option<Vec<u32>>, AllocError> {
+    ) -> Result<Option<Vec<OperationId>>, AllocError> {
         self.asks_all = true;
         if !self.grounds.is_whole() {
             return Ok(None);
@@ -53,7 +54,7 @@ impl Analysis {
     }
 
     /// The operations that the derivation of the learned clause names, if there was room for them.
-    pub fn named_by(&self, clause: u32) -> &[u32] {
+    pub fn named_by(&self, clause: u32) -> &[OperationId] {
         self.grounds.operations.list(clause)
     }
 
@@ -75,27 +76,27 @@ impl Analysis {
     fn take_grounds(&mut self, order: &Propagation<'_>, clause: u32) -> Result<(), AllocError> {
         let begin = self.grounds.operations.begin(clause);
         for place in begin..self.grounds.operations.end(clause) {
-            let operation = self.grounds.operations.entry(place);
+            let operation = self.grounds.operations.entry(place, NOBODY);
             self.name(operation)?;
         }
         let begin = self.grounds.clauses.begin(clause);
         for place in begin..self.grounds.clauses.end(clause) {
-            let used = self.grounds.clauses.entry(place);
+            let used = self.grounds.clauses.entry(place, 0);
             self.used.push(used)?;
         }
         let begin = self.grounds.pairs.begin(clause);
         for place in begin..self.grounds.pairs.end(clause) {
-            let pair = self.grounds.pairs.entry(place);
+            let pair = self.grounds.pairs.entry(place, 0);
             self.mark(order, pair)?;
         }
         Ok(())
     }
 
     /// All that was named, by rising numbers.
-    fn all_named(&self, alloc: Global) -> Result<Vec<u32>, AllocError> {
+    fn all_named(&self, alloc: Global) -> Result<Vec<OperationId>, AllocError> {
         let mut named = Vec::new(alloc);
-        for operation in 0..size(self.is_named.as_slice()) {
-            if at(self.is_named.as_slice(), operation, false) {
+        for operation in OperationId::first(size(self.is_named.as_slice())) {
+            if at(self.is_named.as_slice(), operation.number(), false) {
                 named.push(operation)?;
             }
         }

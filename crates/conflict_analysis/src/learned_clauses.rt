@@ -1,6 +1,7 @@
 //! Learned clauses.
 
 use closed_rows::PairReason;
+use numbered_log::OperationId;
 use order_propagation::{Propagated, Propagation, Stop};
 use std::alloc::{AllocError, Global};
 use total_tables::{at, piece, put, size};
@@ -8,14 +9,14 @@ use total_tables::{at, piece, put, size};
 /// That the first operation stands before the second.
 #[derive(Clone, Copy)]
 pub struct Literal {
-    pub first: u32,
-    pub second: u32,
+    pub first: OperationId,
+    pub second: OperationId,
 }
 
 /// No literal.
 const NO_LITERAL: Literal = Literal {
-    first: 0,
-    second: 0,
+    first: OperationId::FIRST,
+    second: OperationId::FIRST,
 };
 
 /// A clause: one of its literals holds.
@@ -159,17 +160,21 @@ impl LearnedClauses {
         Ok(number)
     }
 
-    fn raise_activity(&mut self, operation: u32) {
-        let activity = at(self.activities.as_slice(), operation, 0);
+    fn raise_activity(&mut self, operation: OperationId) {
+        let activity = at(self.activities.as_slice(), operation.number(), 0);
         let raised = activity.saturating_add(self.gain);
-        put(self.activities.as_mut_slice(), operation, raised);
+        put(self.activities.as_mut_slice(), operation.number(), raised);
     }
 
     fn divide_activities(&mut self) {
         self.gain = FIRST_GAIN;
-        for operation in 0..size(self.activities.as_slice()) {
-            let activity = at(self.activities.as_slice(), operation, 0);
-            put(self.activities.as_mut_slice(), operation, activity >> 40);
+        for operation in OperationId::first(size(self.activities.as_slice())) {
+            let activity = at(self.activities.as_slice(), operation.number(), 0);
+            put(
+                self.activities.as_mut_slice(),
+                operation.number(),
+                activity >> 40,
+            );
         }
     }
 
@@ -319,11 +324,11 @@ impl LearnedClauses {
             }
             if !self.is_refuted(order, place) {
                 let literal = self.literal(place);
-                let activity = at(self.activities.as_slice(), literal.first, 0).saturating_add(at(
+                let activity = at(
                     self.activities.as_slice(),
-                    literal.second,
+                    literal.first.number(),
                     0,
-                ));
+                ).saturating_add(at(self.activities.as_slice(), literal.second.number(), 0));
                 if best.is_none() || activity > most {
                     best = Some(literal);
                     most = activity;

@@ -2,6 +2,7 @@
 
 use crate::analysis::Analysis;
 use crate::learned_clauses::LearnedClauses;
+use numbered_log::OperationId;
 use order_propagation::Propagation;
 use std::alloc::{AllocError, Global};
 
@@ -37,7 +38,7 @@ impl Learning {
         &mut self,
         alloc: Global,
         order: &mut Propagation<'_>,
-    ) -> Result<Option<Vec<u32>>, AllocError> {
+    ) -> Result<Option<Vec<OperationId>>, AllocError> {
         self.analysis.begin_core();
         self.analysis.ask_conflict(order, &self.clauses)?;
         let core = self.analysis.find_core(alloc, order, &self.clauses)?;

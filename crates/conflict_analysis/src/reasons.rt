@@ -3,7 +3,7 @@
 use crate::analysis::Analysis;
 use crate::learned_clauses::LearnedClauses;
 use closed_rows::{OrderedPair, PairReason};
-use numbered_log::NOBODY;
+use numbered_log::{LocationId, NO_NUMBER, OperationId};
 use order_propagation::Propagation;
 use possible_sources::Time;
 use std::alloc::AllocError;
@@ -37,7 +37,7 @@ impl Analysis {
     fn ask_before(
         &mut self,
         order: &Propagation<'_>,
-        reader: u32,
+        reader: OperationId,
         pair: OrderedPair,
     ) -> Result<(), AllocError> {
         self.ask_sources(order, reader, pair.time)?;
@@ -57,7 +57,7 @@ impl Analysis {
     fn ask_after(
         &mut self,
         order: &Propagation<'_>,
-        reader: u32,
+        reader: OperationId,
         pair: OrderedPair,
     ) -> Result<(), AllocError> {
         self.ask_sources(order, reader, pair.time)?;
@@ -92,12 +92,12 @@ impl Analysis {
     pub fn ask_sources(
         &mut self,
         order: &Propagation<'_>,
-        reader: u32,
+        reader: OperationId,
         time: Time,
     ) -> Result<(), AllocError> {
         self.name(reader)?;
-        if reader >= order.log().count() {
-            self.name_last_writer(order, reader.wrapping_sub(order.log().count()))?;
+        if order.log().is_final(reader) {
+            self.name_last_writer(order, order.log().final_location(reader))?;
         }
         self.lows.clear();
         self.highs.clear();
@@ -106,12 +106,12 @@ impl Analysis {
             self.lows.push(low)?;
             let high = self.ask_late(order, reader, run, time)?;
             self.highs.push(high)?;
-            if reader >= order.log().count() && low < high {
+            if order.log().is_final(reader) && low < high {
                 self.name(order.classes().writer(low))?;
             }
         }
         let lost = order.sources().initial_loss(reader);
-        if lost != NOBODY && order.sources().had_initial(reader) {
+        if lost != NO_NUMBER && order.sources().had_initial(reader) {
             let cause = order.sources().loss(lost).cause;
             if cause.time.is_before(time) {
                 self.name(cause.witness)?;
@@ -125,9 +125,9 @@ impl Analysis {
     fn name_last_writer(
         &mut self,
         order: &Propagation<'_>,
-        location: u32,
+        location: LocationId,
     ) -> Result<(), AllocError> {
-        for number in (0..order.log().count()).rev() {
+        for number in (0..order.log().count()).rev().map(OperationId::new) {
             self.steps = self.steps.wrapping_add(1);
             let operation = order.log().operation(number);
             if operation.writes && operation.location == location {
@@ -141,7 +141,7 @@ impl Analysis {
     fn ask_hidden(
         &mut self,
         order: &Propagation<'_>,
-        reader: u32,
+        reader: OperationId,
         run: u32,
         time: Time,
     ) -> Result<u32, AllocError> {
@@ -149,7 +149,7 @@ impl Analysis {
         let mut low = sources.low(reader, run);
         let mut number = sources.last_hidden(sources.interval(reader, run));
         for _ in 0..sources.losses() {
-            if number == NOBODY {
+            if number == NO_NUMBER {
                 break;
             }
             let loss = sources.loss(number);
@@ -158,7 +158,7 @@ impl Analysis {
                 self.name(cause.writer)?;
                 self.name(cause.witness)?;
                 self.ask(order, cause.writer, cause.witness, cause.time)?;
-                if reader < order.log().count() {
+                if !order.log().is_final(reader) {
                     self.ask(order, cause.witness, reader, cause.time)?;
                 }
                 break;
@@ -173,7 +173,7 @@ impl Analysis {
     fn ask_late(
         &mut self,
         order: &Propagation<'_>,
-        reader: u32,
+        reader: OperationId,
         run: u32,
         time: Time,
     ) -> Result<u32, AllocError> {
@@ -181,7 +181,7 @@ impl Analysis {
         let mut high = sources.high(reader, run);
         let mut number = sources.last_late(sources.interval(reader, run));
         for _ in 0..sources.losses() {
-            if number == NOBODY {
+            if number == NO_NUMBER {
                 break;
             }
             let loss = sources.loss(number);

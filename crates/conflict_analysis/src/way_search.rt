@@ -1,6 +1,6 @@
 //! A way from one operation to a later one by program order and older pairs.
 
-use numbered_log::NOBODY;
+use numbered_log::{NO_NUMBER, OperationId};
 use order_propagation::Propagation;
 use possible_sources::Time;
 use std::alloc::{AllocError, Global};
@@ -9,8 +9,8 @@ use total_tables::{at, put, size};
 /// What is asked for: why the first operation stands before the second by pairs that are older than a time.
 #[derive(Clone, Copy)]
 pub struct WayQuestion {
-    pub first: u32,
-    pub second: u32,
+    pub first: OperationId,
+    pub second: OperationId,
     pub time: Time,
 }
 
@@ -22,11 +22,11 @@ pub struct WaySearch {
     turns: Vec<u32>,
     /// For each operation that was met the number of new pairs up to it.
     lengths: Vec<u32>,
-    /// The pair by which it was met, or `NOBODY` for the one before it in its process.
+    /// The pair by which it was met, or `NO_NUMBER` for the one before it in its process.
     arrivals: Vec<u32>,
     /// The operations met at the length at hand, and at the next.
-    near: Vec<u32>,
-    far: Vec<u32>,
+    near: Vec<OperationId>,
+    far: Vec<OperationId>,
     /// The pairs of the way, the last first.
     way: Vec<u32>,
     /// Whether a way may lead over any operation, and not only over those that stand before its end by the rows.
@@ -58,7 +58,7 @@ impl WaySearch {
             turn: 0,
             turns: vec![in alloc; 0; count]?,
             lengths: vec![in alloc; 0; count]?,
-            arrivals: vec![in alloc; NOBODY; count]?,
+            arrivals: vec![in alloc; NO_NUMBER; count]?,
             near: Vec::new(alloc),
             far: Vec::new(alloc),
             way: Vec::new(alloc),
@@ -74,7 +74,7 @@ impl WaySearch {
 
     /// The pair of the way that has this number.
     pub fn pair(&self, number: u32) -> u32 {
-        at(self.way.as_slice(), number, NOBODY)
+        at(self.way.as_slice(), number, NO_NUMBER)
     }
 
     /// The number of steps since it was last asked, which goes on.
@@ -111,8 +111,8 @@ impl WaySearch {
 
     /// Returns whether the search at hand has met the operation.
     #[inline(always)]
-    fn is_met(&self, number: u32) -> bool {
-        at(self.turns.as_slice(), number, 0) == self.turn
+    fn is_met(&self, number: OperationId) -> bool {
+        at(self.turns.as_slice(), number.number(), 0) == self.turn
     }
 
     /// Goes on from the first operation of the question until its second is met, or nothing is left.
@@ -125,7 +125,7 @@ impl WaySearch {
         self.turn = self.turn.wrapping_add(1);
         self.near.clear();
         self.far.clear();
-        self.meet(question.first, 0, NOBODY, true)?;
+        self.meet(question.first, 0, NO_NUMBER, true)?;
         let mut length: u32 = 0;
         for _ in 0..u64::MAX {
             let Some(number) = self.near.pop() else {
@@ -139,7 +139,7 @@ impl WaySearch {
             if number == question.second {
                 break;
             }
-            if at(self.lengths.as_slice(), number, 0) == length {
+            if at(self.lengths.as_slice(), number.number(), 0) == length {
                 self.go_on(order, question, number, length)?;
                 self.follow_pairs(order, question, (number, length), costs)?;
             }
@@ -162,17 +162,17 @@ impl WaySearch {
     #[inline(always)]
     fn meet(
         &mut self,
-        number: u32,
+        number: OperationId,
         length: u32,
         arrival: u32,
         is_near: bool,
     ) -> Result<(), AllocError> {
-        if self.is_met(number) && at(self.lengths.as_slice(), number, 0) <= length {
+        if self.is_met(number) && at(self.lengths.as_slice(), number.number(), 0) <= length {
             return Ok(());
         }
-        put(self.turns.as_mut_slice(), number, self.turn);
-        put(self.lengths.as_mut_slice(), number, length);
-        put(self.arrivals.as_mut_slice(), number, arrival);
+        put(self.turns.as_mut_slice(), number.number(), self.turn);
+        put(self.lengths.as_mut_slice(), number.number(), length);
+        put(self.arrivals.as_mut_slice(), number.number(), arrival);
         if is_near {
             self.near.push(number)?;
         } else {
@@ -183,7 +183,12 @@ impl WaySearch {
 
     /// Returns whether a way may lead over this operation.
     #[inline(always)]
-    fn leads_on(&self, order: &Propagation<'_>, question: WayQuestion, number: u32) -> bool {
+    fn leads_on(
+        &self,
+        order: &Propagation<'_>,
+        question: WayQuestion,
+        number: OperationId,
+    ) -> bool {
         number == question.second
             || self.leads_anywhere
             || order.stands_before(number, question.second)
@@ -194,16 +199,16 @@ impl WaySearch {
         &mut self,
         order: &Propagation<'_>,
         question: WayQuestion,
-        number: u32,
+        number: OperationId,
         length: u32,
     ) -> Result<(), AllocError> {
         self.steps = self.steps.wrapping_add(4);
         let operation = order.log().operation(number);
-        let next = number.wrapping_add(1);
-        if operation.place < order.log().length(operation.process)
+        let next = number.next();
+        if operation.place < order.log().last_place(operation.process)
             && self.leads_on(order, question, next)
         {
-            self.meet(next, length, NOBODY, true)?;
+            self.meet(next, length, NO_NUMBER, true)?;
         }
         Ok(())
     }
@@ -213,12 +218,12 @@ impl WaySearch {
         &mut self,
         order: &Propagation<'_>,
         question: WayQuestion,
-        from: (u32, u32),
+        from: (OperationId, u32),
         costs: (&[bool], bool),
     ) -> Result<(), AllocError> {
         let mut number = order.pairs().last_of(from.0);
         for _ in 0..order.pairs().count() {
-            if number == NOBODY {
+            if number == NO_NUMBER {
                 break;
             }
             let pair = order.pairs().pair(number);
@@ -245,9 +250,9 @@ impl WaySearch {
             if number == question.first || !self.is_met(number) {
                 break;
             }
-            let arrival = at(self.arrivals.as_slice(), number, NOBODY);
-            if arrival == NOBODY {
-                number = number.wrapping_sub(1);
+            let arrival = at(self.arrivals.as_slice(), number.number(), NO_NUMBER);
+            if arrival == NO_NUMBER {
+                number = number.previous();
             } else {
                 self.way.push(arrival)?;
                 number = order.pairs().pair(arrival).first;

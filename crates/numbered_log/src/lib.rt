@@ -6,6 +6,11 @@
 
 mod budget;
 mod numbered_log;
+mod numbers;
 
 pub use budget::Budget;
-pub use numbered_log::{NOBODY, NumberedLog, NumberedOrigin, NumberedPair, Operation};
+pub use numbered_log::{NumberedLog, NumberedOrigin, NumberedPair, Operation};
+pub use numbers::{
+    LocationId, LocationIds, NO_NUMBER, NOBODY, OperationId, OperationIds, PlacesBack, ProcessId,
+    ProcessIds, ProcessPlace, ProcessPlaces, UNKNOWN_SOURCE,
+};

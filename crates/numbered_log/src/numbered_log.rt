@@ -1,10 +1,11 @@
 //! A trace as numbers.
 
+use crate::numbers::{
+    LocationId, LocationIds, OperationId, OperationIds, ProcessId, ProcessIds, ProcessPlace,
+    ProcessPlaces,
+};
 use std::alloc::{AllocError, Global};
 use total_tables::{at, put, size};
-
-/// The number of no operation, and of an initial value where a source is named.
-pub const NOBODY: u32 = u32::MAX;
 
 /// The origin of the value of a reading operation, by number.
 #[derive(Clone, Copy)]
@@ -14,17 +15,16 @@ pub enum NumberedOrigin {
     /// The initial value.
     Initial,
     /// The operation of this number.
-    Operation(u32),
+    Operation(OperationId),
 }
 
 /// An operation. Its number among all is that of the first one of its process, and its place less one, so that a place gives the number
 /// without a table.
 #[derive(Clone, Copy)]
 pub struct Operation {
-    pub process: u32,
-    /// Its place in the process, counted from 1.
-    pub place: u32,
-    pub location: u32,
+    pub process: ProcessId,
+    pub place: ProcessPlace,
+    pub location: LocationId,
     pub reads: bool,
     pub writes: bool,
     /// The value that it reads.
@@ -36,9 +36,9 @@ pub struct Operation {
 
 /// The operation in place of one that is not there. It reads and writes nothing, so a wrong number costs an answer and makes none wrong.
 const MISSING: Operation = Operation {
-    process: 0,
-    place: 0,
-    location: 0,
+    process: ProcessId::FIRST,
+    place: ProcessPlace::START,
+    location: LocationId::FIRST,
     reads: false,
     writes: false,
     needed: 0,
@@ -49,8 +49,8 @@ const MISSING: Operation = Operation {
 /// Two operations of which the first stands before the second.
 #[derive(Clone, Copy)]
 pub struct NumberedPair {
-    pub first: u32,
-    pub second: u32,
+    pub first: OperationId,
+    pub second: OperationId,
     /// Whether times say so, and not a pair of the trace: a certificate has another line for it.
     pub is_timed: bool,
 }
@@ -94,9 +94,9 @@ impl NumberedLog {
 
     /// Adds an operation to the process at hand. Its process and place are given to it.
     pub fn add_operation(&mut self, operation: Operation) -> Result<(), AllocError> {
-        let process = self.processes();
-        let first = at(self.starts.as_slice(), process, 0);
-        let place = self.count().wrapping_sub(first).wrapping_add(1);
+        let process = ProcessId::new(self.processes());
+        let first = self.start(process).number();
+        let place = ProcessPlace::new(self.count().wrapping_sub(first).wrapping_add(1));
         self.operations.push(Operation {
             process,
             place,
@@ -113,23 +113,23 @@ impl NumberedLog {
     }
 
     /// Sets the origin of an operation's value.
-    pub fn set_origin(&mut self, number: u32, origin: NumberedOrigin) {
+    pub fn set_origin(&mut self, number: OperationId, origin: NumberedOrigin) {
         let operation = self.operation(number);
         let changed = Operation {
             origin,
             ..operation
         };
-        put(self.operations.as_mut_slice(), number, changed);
+        put(self.operations.as_mut_slice(), number.number(), changed);
     }
 
     /// Sets the value that the location holds before all operations.
-    pub fn set_initial(&mut self, location: u32, value: Option<u64>) {
-        put(self.initial.as_mut_slice(), location, value);
+    pub fn set_initial(&mut self, location: LocationId, value: Option<u64>) {
+        put(self.initial.as_mut_slice(), location.number(), value);
     }
 
     /// Sets the value that the location holds in the end.
-    pub fn set_last(&mut self, location: u32, value: Option<u64>) {
-        put(self.last.as_mut_slice(), location, value);
+    pub fn set_last(&mut self, location: LocationId, value: Option<u64>) {
+        put(self.last.as_mut_slice(), location.number(), value);
     }
 
     /// Adds a pair of which the first stands before the second.
@@ -155,37 +155,97 @@ impl NumberedLog {
     }
 
     #[inline(always)]
-    pub fn operation(&self, number: u32) -> Operation {
-        at(self.operations.as_slice(), number, MISSING)
+    pub fn operation(&self, number: OperationId) -> Operation {
+        at(self.operations.as_slice(), number.number(), MISSING)
     }
 
-    /// The number of the process's first operation.
+    /// All operations, by rising numbers.
     #[inline(always)]
-    pub fn start(&self, process: u32) -> u32 {
-        at(self.starts.as_slice(), process, 0)
+    pub fn operation_ids(&self) -> OperationIds {
+        OperationId::first(self.count())
+    }
+
+    /// All processes, by rising numbers.
+    #[inline(always)]
+    pub fn process_ids(&self) -> ProcessIds {
+        ProcessId::first(self.processes())
+    }
+
+    /// All locations, by rising numbers.
+    #[inline(always)]
+    pub fn location_ids(&self) -> LocationIds {
+        LocationId::first(self.locations())
+    }
+
+    /// The process's first operation.
+    #[inline(always)]
+    pub fn start(&self, process: ProcessId) -> OperationId {
+        OperationId::new(at(self.starts.as_slice(), process.number(), 0))
     }
 
     /// The number of the process's operations.
     #[inline(always)]
-    pub fn length(&self, process: u32) -> u32 {
-        let end = at(self.starts.as_slice(), process.wrapping_add(1), 0);
-        end.saturating_sub(self.start(process))
+    pub fn length(&self, process: ProcessId) -> u32 {
+        let end = self.start(process.next());
+        end.number().saturating_sub(self.start(process).number())
     }
 
-    /// The number of the process's operation at this place.
+    /// The place of the process's last operation, or the one before the first if it has none.
     #[inline(always)]
-    pub fn number(&self, process: u32, place: u32) -> u32 {
-        self.start(process).wrapping_add(place).wrapping_sub(1)
+    pub fn last_place(&self, process: ProcessId) -> ProcessPlace {
+        ProcessPlace::new(self.length(process))
+    }
+
+    /// The place behind the process's last operation.
+    #[inline(always)]
+    pub fn end(&self, process: ProcessId) -> ProcessPlace {
+        self.last_place(process).next()
+    }
+
+    /// The places of the process's operations.
+    #[inline(always)]
+    pub fn places(&self, process: ProcessId) -> ProcessPlaces {
+        ProcessPlace::FIRST.up_to(self.end(process))
+    }
+
+    /// The process's operation at this place.
+    #[inline(always)]
+    pub fn number(&self, process: ProcessId, place: ProcessPlace) -> OperationId {
+        self.start(process).at_place(place)
+    }
+
+    /// The reader that is the final value of the location.
+    #[inline(always)]
+    pub fn final_reader(&self, location: LocationId) -> OperationId {
+        OperationId::new(self.count().wrapping_add(location.number()))
+    }
+
+    /// Returns whether there is an operation of this number.
+    #[inline(always)]
+    pub fn has_operation(&self, number: OperationId) -> bool {
+        number.number() < self.count()
+    }
+
+    /// Returns whether the reader is a final value, and no operation.
+    #[inline(always)]
+    pub fn is_final(&self, reader: OperationId) -> bool {
+        reader.number() >= self.count()
+    }
+
+    /// The location of which the reader is the final value.
+    #[inline(always)]
+    pub fn final_location(&self, reader: OperationId) -> LocationId {
+        LocationId::new(reader.number().wrapping_sub(self.count()))
     }
 
     /// The location's value before all operations.
-    pub fn initial(&self, location: u32) -> Option<u64> {
-        at(self.initial.as_slice(), location, None)
+    pub fn initial(&self, location: LocationId) -> Option<u64> {
+        at(self.initial.as_slice(), location.number(), None)
     }
 
     /// The location's value in the end.
-    pub fn last(&self, location: u32) -> Option<u64> {
-        at(self.last.as_slice(), location, None)
+    pub fn last(&self, location: LocationId) -> Option<u64> {
+        at(self.last.as_slice(), location.number(), None)
     }
 
     /// The pairs of which the first operation stands before the second.

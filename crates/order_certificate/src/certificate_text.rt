@@ -4,6 +4,7 @@ use crate::order_certificate::{LogNames, NamedPlace};
 use crate::reason_words::ReasonWord;
 use conflict_analysis::Literal;
 use itoa::Buffer;
+use numbered_log::{OperationId, ProcessId, ProcessPlace};
 use std::alloc::{AllocError, Global};
 use std::collections::HashMap;
 use total_tables::at;
@@ -17,8 +18,8 @@ struct OrderVariable {
 
 /// The place of no operation.
 const NO_PLACE: NamedPlace = NamedPlace {
-    process: 0,
-    place: 0,
+    process: ProcessId::FIRST,
+    place: ProcessPlace::START,
 };
 
 /// The lines that are written.
@@ -31,8 +32,8 @@ pub(crate) struct CertificateText<'a> {
 
 fn variable_of(literal: Literal) -> OrderVariable {
     OrderVariable {
-        first: literal.first.min(literal.second),
-        second: literal.first.max(literal.second),
+        first: literal.first.number().min(literal.second.number()),
+        second: literal.first.number().max(literal.second.number()),
     }
 }
 
@@ -68,8 +69,8 @@ impl<'a> CertificateText<'a> {
                 let number = (self.variables.len() & 0xffff_ffff) as u32;
                 self.variables.insert(variable, number.wrapping_add(1))?;
                 self.bytes.push(b'v')?;
-                self.add_operation(variable.first)?;
-                self.add_operation(variable.second)?;
+                self.add_operation(OperationId::new(variable.first))?;
+                self.add_operation(OperationId::new(variable.second))?;
                 self.bytes.push(b'\n')?;
             }
         }
@@ -90,7 +91,7 @@ impl<'a> CertificateText<'a> {
                 ReasonWord::Operation(number) => self.add_operation(number)?,
                 ReasonWord::Location(number) => {
                     self.bytes.push(b' ')?;
-                    let name = at(self.names.locations.as_slice(), number, &[]);
+                    let name = at(self.names.locations.as_slice(), number.number(), &[]);
                     self.bytes.extend_from_slice(name)?;
                 }
             }
@@ -101,13 +102,13 @@ impl<'a> CertificateText<'a> {
     }
 
     /// Adds a space and the operation's name.
-    fn add_operation(&mut self, number: u32) -> Result<(), AllocError> {
-        let named = at(self.names.operations.as_slice(), number, NO_PLACE);
+    fn add_operation(&mut self, number: OperationId) -> Result<(), AllocError> {
+        let named = at(self.names.operations.as_slice(), number.number(), NO_PLACE);
         self.bytes.push(b' ')?;
-        let name = at(self.names.processes.as_slice(), named.process, &[]);
+        let name = at(self.names.processes.as_slice(), named.process.number(), &[]);
         self.bytes.extend_from_slice(name)?;
         self.bytes.push(b'.')?;
-        self.push_number(named.place)
+        self.push_number(named.place.number())
     }
 
     fn push_number(&mut self, number: u32) -> Result<(), AllocError> {

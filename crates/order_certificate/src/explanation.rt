@@ -7,13 +7,13 @@ use crate::numbered_lines::NumberedLines;
 use crate::order_facts::OrderFacts;
 use crate::stuck_heads::StuckHeads;
 use conflict_analysis::{LearnedClauses, Literal, WayQuestion, WaySearch, pairs_of_cycle};
-use numbered_log::NOBODY;
+use numbered_log::{NO_NUMBER, NOBODY, OperationId};
 use order_propagation::{Conflict, Propagation};
 use possible_sources::Time;
 use std::alloc::{AllocError, Global};
 use total_tables::{at, size};
 
-/// What was derived: a pair, or the conflict if that is `NOBODY`. It follows from the facts at these places of the list by the clause of the
+/// What was derived: a pair, or the conflict if that is `NO_NUMBER`. It follows from the facts at these places of the list by the clause of the
 /// hint, or by the facts alone.
 #[derive(Clone, Copy)]
 pub(crate) struct DerivedPair {
@@ -25,7 +25,7 @@ pub(crate) struct DerivedPair {
 
 /// Nothing derived.
 pub(crate) const NOTHING_DERIVED: DerivedPair = DerivedPair {
-    pair: NOBODY,
+    pair: NO_NUMBER,
     hint: None,
     begin: 0,
     end: 0,
@@ -132,23 +132,23 @@ impl Explanation {
         &mut self,
         order: &mut Propagation<'_>,
         clauses: &LearnedClauses,
-        takers: &[u32],
+        takers: &[OperationId],
     ) -> Result<Option<u32>, AllocError> {
         self.begin();
         self.lines.begin(b'n')?;
         for taker in takers {
-            if *taker < order.log().count() {
+            if !order.log().is_final(*taker) {
                 self.lines.letter(b'r')?;
                 self.lines.operation(*taker)?;
             } else {
                 self.lines.letter(b'l')?;
-                let location = taker.wrapping_sub(order.log().count());
+                let location = order.log().final_location(*taker);
                 self.lines.location(location)?;
             }
             self.add_pieces(order, *taker, order.later())?;
         }
         let hint = self.finish_line()?;
-        self.note_derived(NOBODY, hint)?;
+        self.note_derived(NO_NUMBER, hint)?;
         self.finish(order, clauses, &[])
     }
 
@@ -196,12 +196,12 @@ impl Explanation {
                 if pair.first != pair.second {
                     self.ask(order, pair.second, pair.first, pair.time)?;
                 }
-                self.note_derived(NOBODY, hint)
+                self.note_derived(NO_NUMBER, hint)
             }
             Conflict::NoSource(reader) => {
                 self.begin_sources(order, reader, order.later())?;
                 let hint = self.finish_line()?;
-                self.note_derived(NOBODY, hint)
+                self.note_derived(NO_NUMBER, hint)
             }
             Conflict::CyclicPairs => self.ask_cycle(order, clauses),
             Conflict::None => {
@@ -224,7 +224,7 @@ impl Explanation {
                 == order.log().operation(pair.second).process
             {
                 let hint = self.ask_reason(order, clauses, pair)?;
-                return self.note_derived(NOBODY, hint);
+                return self.note_derived(NO_NUMBER, hint);
             }
         }
         self.add_cycle(order, cycle.as_slice())
@@ -235,12 +235,12 @@ impl Explanation {
         self.lines.begin(b'c')?;
         let begin = order
             .pairs()
-            .pair(at(cycle, size(cycle).wrapping_sub(1), NOBODY))
+            .pair(at(cycle, size(cycle).wrapping_sub(1), NO_NUMBER))
             .first;
         let mut operations: u32 = 0;
         let mut last = NOBODY;
         for place in (0..size(cycle)).rev() {
-            let number = at(cycle, place, NOBODY);
+            let number = at(cycle, place, NO_NUMBER);
             self.marks.mark(number)?;
             let pair = order.pairs().pair(number);
             if pair.first != last {
@@ -254,10 +254,10 @@ impl Explanation {
             last = pair.second;
         }
         if operations <= 2 {
-            return self.note_derived(NOBODY, None);
+            return self.note_derived(NO_NUMBER, None);
         }
         let hint = self.finish_line()?;
-        self.note_derived(NOBODY, hint)
+        self.note_derived(NO_NUMBER, hint)
     }
 
     /// Finishes the line at hand.
@@ -309,8 +309,8 @@ impl Explanation {
     pub(crate) fn ask(
         &mut self,
         order: &Propagation<'_>,
-        first: u32,
-        second: u32,
+        first: OperationId,
+        second: OperationId,
         time: Time,
     ) -> Result<(), AllocError> {
         let earlier = order.log().operation(first);
@@ -324,7 +324,7 @@ impl Explanation {
             time,
         };
         let mut fact = self.facts.find(question);
-        if fact == NOBODY {
+        if fact == NO_NUMBER {
             fact = self.find_way(order, question)?;
         }
         self.fact_numbers.push(fact)?;

@@ -1,6 +1,6 @@
 //! The pairs that an explanation rests on.
 
-use numbered_log::NOBODY;
+use numbered_log::NO_NUMBER;
 use std::alloc::{AllocError, Global};
 use total_tables::{at, put, size};
 
@@ -9,7 +9,7 @@ pub(crate) struct MarkedPairs {
     /// For each pair, by number, whether it is marked. One that a step derives stays so: ways that lead over it then cost nothing more.
     is_marked: Vec<bool>,
     marked: Vec<u32>,
-    /// For each pair the step that derives it, or `NOBODY`.
+    /// For each pair the step that derives it, or `NO_NUMBER`.
     steps: Vec<u32>,
     highest: u32,
 }
@@ -40,7 +40,7 @@ impl MarkedPairs {
     /// Takes back all marks but those of pairs that a step derives.
     pub(crate) fn clear(&mut self) {
         for number in self.marked.as_slice() {
-            if at(self.steps.as_slice(), *number, NOBODY) == NOBODY {
+            if at(self.steps.as_slice(), *number, NO_NUMBER) == NO_NUMBER {
                 put(self.is_marked.as_mut_slice(), *number, false);
             }
         }
@@ -52,7 +52,7 @@ impl MarkedPairs {
     pub(crate) fn mark(&mut self, number: u32) -> Result<(), AllocError> {
         for _ in size(self.is_marked.as_slice())..number.saturating_add(1) {
             self.is_marked.push(false)?;
-            self.steps.push(NOBODY)?;
+            self.steps.push(NO_NUMBER)?;
         }
         if !at(self.is_marked.as_slice(), number, true) {
             put(self.is_marked.as_mut_slice(), number, true);
@@ -74,12 +74,12 @@ impl MarkedPairs {
 
     /// Returns whether the pair is marked and no step derives it.
     pub(crate) fn is_open(&self, number: u32) -> bool {
-        at(self.is_marked.as_slice(), number, false) && self.step(number) == NOBODY
+        at(self.is_marked.as_slice(), number, false) && self.step(number) == NO_NUMBER
     }
 
-    /// The step that derives the pair, or `NOBODY`.
+    /// The step that derives the pair, or `NO_NUMBER`.
     pub(crate) fn step(&self, number: u32) -> u32 {
-        at(self.steps.as_slice(), number, NOBODY)
+        at(self.steps.as_slice(), number, NO_NUMBER)
     }
 
     /// Keeps the step that derives the pair.

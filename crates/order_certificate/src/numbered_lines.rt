@@ -1,7 +1,7 @@
 //! Lines of reasons, each once, since many clauses rest on the same ones.
 
 use crate::reason_words::ReasonWord;
-use numbered_log::NOBODY;
+use numbered_log::{LocationId, NO_NUMBER, OperationId};
 use std::alloc::{AllocError, Global};
 use total_tables::{at, piece, put, size};
 
@@ -17,7 +17,7 @@ pub(crate) struct NumberedLines {
     words: Vec<ReasonWord>,
     /// The place at which the first line begins, and for each line the place behind it.
     ends: Vec<u32>,
-    /// A line for each slot that is taken, else `NOBODY`.
+    /// A line for each slot that is taken, else `NO_NUMBER`.
     slots: Vec<u32>,
 }
 
@@ -37,8 +37,8 @@ impl Drop for NumberedLines {
 fn number_of(word: ReasonWord) -> u32 {
     match word {
         ReasonWord::Letter(letter) => letter as u32,
-        ReasonWord::Operation(number) => number.wrapping_add(1 << 9),
-        ReasonWord::Location(number) => number.wrapping_add(1 << 29),
+        ReasonWord::Operation(operation) => operation.number().wrapping_add(1 << 9),
+        ReasonWord::Location(location) => location.number().wrapping_add(1 << 29),
     }
 }
 
@@ -73,7 +73,7 @@ impl NumberedLines {
             alloc,
             words: Vec::new(alloc),
             ends: vec![in alloc; 0; 1]?,
-            slots: vec![in alloc; NOBODY; FIRST_SLOTS as usize]?,
+            slots: vec![in alloc; NO_NUMBER; FIRST_SLOTS as usize]?,
         })
     }
 
@@ -105,13 +105,13 @@ impl NumberedLines {
     }
 
     /// Adds the operation to the line that is not finished.
-    pub(crate) fn operation(&mut self, number: u32) -> Result<(), AllocError> {
-        self.word(ReasonWord::Operation(number))
+    pub(crate) fn operation(&mut self, operation: OperationId) -> Result<(), AllocError> {
+        self.word(ReasonWord::Operation(operation))
     }
 
     /// Adds the location to the line that is not finished.
-    pub(crate) fn location(&mut self, number: u32) -> Result<(), AllocError> {
-        self.word(ReasonWord::Location(number))
+    pub(crate) fn location(&mut self, location: LocationId) -> Result<(), AllocError> {
+        self.word(ReasonWord::Location(location))
     }
 
     fn word(&mut self, word: ReasonWord) -> Result<(), AllocError> {
@@ -134,8 +134,8 @@ impl NumberedLines {
         let begin = self.unfinished();
         let end = size(self.words.as_slice());
         let slot = self.slot_of(piece(self.words.as_slice(), begin, end));
-        let found = at(self.slots.as_slice(), slot, NOBODY);
-        if found != NOBODY {
+        let found = at(self.slots.as_slice(), slot, NO_NUMBER);
+        if found != NO_NUMBER {
             self.drop_unfinished();
             return Ok(found);
         }
@@ -153,8 +153,8 @@ impl NumberedLines {
         let mask = size(self.slots.as_slice()).wrapping_sub(1);
         let mut slot = mix(words) & mask;
         for _ in 0..mask {
-            let number = at(self.slots.as_slice(), slot, NOBODY);
-            if number == NOBODY || are_equal(self.line(number), words) {
+            let number = at(self.slots.as_slice(), slot, NO_NUMBER);
+            if number == NO_NUMBER || are_equal(self.line(number), words) {
                 break;
             }
             slot = slot.wrapping_add(1) & mask;
@@ -165,7 +165,7 @@ impl NumberedLines {
     /// Doubles the hash table.
     fn grow(&mut self) -> Result<(), AllocError> {
         let wider = self.slots.len().saturating_mul(2);
-        self.slots = vec![in self.alloc; NOBODY; wider]?;
+        self.slots = vec![in self.alloc; NO_NUMBER; wider]?;
         for number in 0..self.count() {
             let slot = self.slot_of(self.line(number));
             put(self.slots.as_mut_slice(), slot, number);

@@ -3,15 +3,15 @@
 use crate::certificate_text::CertificateText;
 use crate::derivation_steps::DerivationHint;
 use crate::explanation::Explanation;
-use numbered_log::NOBODY;
+use numbered_log::{NO_NUMBER, ProcessId, ProcessPlace};
 use std::alloc::{AllocError, Global};
 use total_tables::{at, put, size};
 
 /// The number of a process, and the place in it by which the trace names an operation.
 #[derive(Clone, Copy)]
 pub struct NamedPlace {
-    pub process: u32,
-    pub place: u32,
+    pub process: ProcessId,
+    pub place: ProcessPlace,
 }
 
 /// The names of a log's processes, locations and operations, by number.
@@ -65,7 +65,7 @@ impl OrderCertificate {
         let mut needed = NeededParts {
             is_needed: vec![in alloc; false; steps as usize]?,
             lines: Vec::new(alloc),
-            line_numbers: vec![in alloc; NOBODY; self.explanation.lines.count() as usize]?,
+            line_numbers: vec![in alloc; NO_NUMBER; self.explanation.lines.count() as usize]?,
         };
         put(needed.is_needed.as_mut_slice(), self.last, true);
         for step in (0..steps).rev() {
@@ -114,7 +114,7 @@ impl OrderCertificate {
     ) -> Result<(), AllocError> {
         text.begin_derivation()?;
         let mut number = size(needed.lines.as_slice());
-        let mut numbers = vec![in alloc; NOBODY; needed.is_needed.len()]?;
+        let mut numbers = vec![in alloc; NO_NUMBER; needed.is_needed.len()]?;
         for step in 0..self.last.saturating_add(1) {
             if at(needed.is_needed.as_slice(), step, false) {
                 number = number.wrapping_add(1);
@@ -123,9 +123,9 @@ impl OrderCertificate {
                 for hint in self.explanation.steps.hints(step) {
                     let named = match *hint {
                         DerivationHint::Line(line) => {
-                            at(needed.line_numbers.as_slice(), line, NOBODY)
+                            at(needed.line_numbers.as_slice(), line, NO_NUMBER)
                         }
-                        DerivationHint::Step(earlier) => at(numbers.as_slice(), earlier, NOBODY),
+                        DerivationHint::Step(earlier) => at(numbers.as_slice(), earlier, NO_NUMBER),
                     };
                     text.add_number(named)?;
                 }
@@ -142,7 +142,7 @@ impl NeededParts {
         let DerivationHint::Line(line) = hint else {
             return Ok(());
         };
-        if at(self.line_numbers.as_slice(), line, 0) == NOBODY {
+        if at(self.line_numbers.as_slice(), line, 0) == NO_NUMBER {
             self.lines.push(line)?;
             let number = size(self.lines.as_slice());
             put(self.line_numbers.as_mut_slice(), line, number);

@@ -1,13 +1,13 @@
 //! Facts: that one operation stands before another by a way of older pairs.
 
 use conflict_analysis::WayQuestion;
-use numbered_log::NOBODY;
+use numbered_log::{NO_NUMBER, NOBODY};
 use possible_sources::Time;
 use std::alloc::{AllocError, Global};
 use total_tables::{at, put, size};
 
 /// That the first operation of the question stands before the second, with the places of the pairs of a way among those of all ways, and the
-/// line of the cycle that says it, or `NOBODY`.
+/// line of the cycle that says it, or `NO_NUMBER`.
 #[derive(Clone, Copy)]
 pub(crate) struct OrderFact {
     pub(crate) question: WayQuestion,
@@ -25,7 +25,7 @@ const NO_FACT: OrderFact = OrderFact {
     },
     begin: 0,
     end: 0,
-    line: NOBODY,
+    line: NO_NUMBER,
 };
 
 /// A fact that was found in this turn.
@@ -62,8 +62,9 @@ impl Drop for OrderFacts {
 fn slot_of(question: WayQuestion) -> u32 {
     let mixed = question
         .first
+        .number()
         .wrapping_mul(2_654_435_761)
-        .wrapping_add(question.second.wrapping_mul(2_654_404_609));
+        .wrapping_add(question.second.number().wrapping_mul(2_654_404_609));
     (mixed >> 8) & KEPT_FACTS.wrapping_sub(1)
 }
 
@@ -74,7 +75,7 @@ impl OrderFacts {
             facts: Vec::new(alloc),
             ways: Vec::new(alloc),
             found: vec![in alloc; FoundFact {
-                fact: NOBODY,
+                fact: NO_NUMBER,
                 turn: 0
             }; KEPT_FACTS as usize]?,
             turn: 0,
@@ -94,13 +95,13 @@ impl OrderFacts {
 
     /// The pair at this place of the ways.
     pub(crate) fn pair(&self, place: u32) -> u32 {
-        at(self.ways.as_slice(), place, NOBODY)
+        at(self.ways.as_slice(), place, NO_NUMBER)
     }
 
-    /// The fact that answers the question by pairs that are old enough, or `NOBODY`.
+    /// The fact that answers the question by pairs that are old enough, or `NO_NUMBER`.
     pub(crate) fn find(&self, question: WayQuestion) -> u32 {
         let nothing = FoundFact {
-            fact: NOBODY,
+            fact: NO_NUMBER,
             turn: 0,
         };
         let found = at(self.found.as_slice(), slot_of(question), nothing);
@@ -112,7 +113,7 @@ impl OrderFacts {
         {
             return found.fact;
         }
-        NOBODY
+        NO_NUMBER
     }
 
     /// Adds a pair to the way of the fact that comes next.
@@ -134,7 +135,7 @@ impl OrderFacts {
             question,
             begin,
             end,
-            line: NOBODY,
+            line: NO_NUMBER,
         })?;
         let turn = self.turn;
         let found = FoundFact { fact, turn };

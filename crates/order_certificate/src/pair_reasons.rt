@@ -4,7 +4,7 @@ use crate::derivation_steps::DerivationHint;
 use crate::explanation::Explanation;
 use closed_rows::{OrderedPair, PairReason};
 use conflict_analysis::LearnedClauses;
-use numbered_log::NOBODY;
+use numbered_log::{NO_NUMBER, NOBODY, OperationId};
 use order_propagation::Propagation;
 use std::alloc::AllocError;
 use total_tables::{at, size};
@@ -63,7 +63,7 @@ impl Explanation {
     fn finish_main(
         &mut self,
         letter: u8,
-        operation: u32,
+        operation: OperationId,
     ) -> Result<Option<DerivationHint>, AllocError> {
         self.lines.letter(letter)?;
         self.lines.operation(operation)?;
@@ -74,7 +74,7 @@ impl Explanation {
     fn ask_before(
         &mut self,
         order: &Propagation<'_>,
-        reader: u32,
+        reader: OperationId,
         pair: OrderedPair,
     ) -> Result<Option<DerivationHint>, AllocError> {
         self.begin_sources(order, reader, pair.time)?;
@@ -91,7 +91,7 @@ impl Explanation {
     fn ask_after(
         &mut self,
         order: &Propagation<'_>,
-        reader: u32,
+        reader: OperationId,
         pair: OrderedPair,
     ) -> Result<Option<DerivationHint>, AllocError> {
         self.begin_sources(order, reader, pair.time)?;
@@ -117,8 +117,8 @@ impl Explanation {
                 self.ask(order, literal.second, literal.first, pair.time)?;
             }
         }
-        let step = at(self.clause_steps.as_slice(), clause, NOBODY);
-        self.is_lost |= step == NOBODY;
+        let step = at(self.clause_steps.as_slice(), clause, NO_NUMBER);
+        self.is_lost |= step == NO_NUMBER;
         Ok(Some(DerivationHint::Step(step)))
     }
 }

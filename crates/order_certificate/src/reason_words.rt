@@ -1,12 +1,12 @@
 //! The words of lines of reasons.
 
+use numbered_log::{LocationId, OperationId};
+
 /// A word of a line of reasons.
 #[derive(Clone, Copy, PartialEq, Eq)]
 pub enum ReasonWord {
     /// The letter that says what a line or a piece is.
     Letter(u8),
-    /// The operation of this number.
-    Operation(u32),
-    /// The location of this number.
-    Location(u32),
+    Operation(OperationId),
+    Location(LocationId),
 }

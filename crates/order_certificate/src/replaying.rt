@@ -5,7 +5,7 @@ use crate::order_certificate::OrderCertificate;
 use crate::stuck_heads::StuckHeads;
 use closed_rows::PairReason;
 use conflict_analysis::{LearnedClauses, Learning, Literal};
-use numbered_log::{Budget, NumberedLog};
+use numbered_log::{Budget, NumberedLog, OperationId, ProcessPlace};
 use order_propagation::{Propagated, Propagation, Stop};
 use std::alloc::{AllocError, Global};
 use total_tables::{put, size};
@@ -34,7 +34,7 @@ pub fn certificate_of_conflict(
 pub fn certificate_of_takers(
     alloc: Global,
     order: &mut Propagation<'_>,
-    takers: &[u32],
+    takers: &[OperationId],
 ) -> Result<Option<OrderCertificate>, AllocError> {
     let clauses = LearnedClauses::new(alloc, order.log().count())?;
     let mut explanation = Explanation::new(alloc, order.log().count(), false)?;
@@ -49,7 +49,7 @@ pub fn certificate_of_learning(
     alloc: Global,
     log: &NumberedLog,
     learning: &Learning,
-    core: Option<&[u32]>,
+    core: Option<&[OperationId]>,
     budget: &mut Budget,
 ) -> Result<Option<OrderCertificate>, AllocError> {
     if core.is_some() {
@@ -69,7 +69,7 @@ fn certificate_within(
     alloc: Global,
     log: &NumberedLog,
     learning: &Learning,
-    core: Option<&[u32]>,
+    core: Option<&[OperationId]>,
     budget: &mut Budget,
 ) -> Result<Option<OrderCertificate>, AllocError> {
     let mut order = Propagation::new(alloc, log, *budget)?;
@@ -93,32 +93,32 @@ fn certificate_within(
 fn look_only_at(
     alloc: Global,
     order: &mut Propagation<'_>,
-    operations: &[u32],
+    operations: &[OperationId],
 ) -> Result<(), AllocError> {
     let mut is_wanted = vec![in alloc; false; order.log().count() as usize]?;
     for operation in operations {
-        put(is_wanted.as_mut_slice(), *operation, true);
+        put(is_wanted.as_mut_slice(), operation.number(), true);
     }
     order.look_only_at(is_wanted.as_slice());
     Ok(())
 }
 
 /// The largest place of the operations in their processes.
-fn last_place(log: &NumberedLog, operations: &[u32]) -> u32 {
-    let mut last: u32 = 0;
+fn last_place(log: &NumberedLog, operations: &[OperationId]) -> ProcessPlace {
+    let mut last = ProcessPlace::START;
     for operation in operations {
-        last = last.max(log.operation(*operation).place);
+        last = last.later(log.operation(*operation).place);
     }
     last
 }
 
 /// The largest place of the literals' operations in their processes.
-fn last_literal(log: &NumberedLog, literals: &[Literal]) -> u32 {
-    let mut last: u32 = 0;
+fn last_literal(log: &NumberedLog, literals: &[Literal]) -> ProcessPlace {
+    let mut last = ProcessPlace::START;
     for literal in literals {
         let first = log.operation(literal.first).place;
         let second = log.operation(literal.second).place;
-        last = last.max(first.max(second));
+        last = last.later(first.later(second));
     }
     last
 }
@@ -173,7 +173,7 @@ impl ClauseReplay {
         &mut self,
         order: &mut Propagation<'_>,
         learning: &Learning,
-        core: &[u32],
+        core: &[OperationId],
     ) -> Result<Option<u32>, AllocError> {
         look_only_at(self.alloc, order, core)?;
         if self.follow(order, core)? {
@@ -200,16 +200,16 @@ impl ClauseReplay {
         order: &mut Propagation<'_>,
         learning: &Learning,
         number: u32,
-        core: &[u32],
+        core: &[OperationId],
     ) -> Result<Replayed, AllocError> {
         let literals = learning.clauses.literals(number);
         let named = learning.analysis.named_by(number);
-        let near = last_literal(order.log(), literals).saturating_add(NEAR);
-        order.set_reach(near);
+        let near = last_literal(order.log(), literals).ahead(NEAR);
+        order.set_reach(near.number());
         let mut step = self.find_step(order, literals, named)?;
         if step.is_none() {
-            let far = last_place(order.log(), named).saturating_add(NEAR);
-            order.set_reach(far);
+            let far = last_place(order.log(), named).ahead(NEAR);
+            order.set_reach(far.number());
             step = self.find_step(order, literals, named)?;
         }
         if step.is_none() {
@@ -235,7 +235,7 @@ impl ClauseReplay {
         &mut self,
         order: &mut Propagation<'_>,
         literals: &[Literal],
-        readers: &[u32],
+        readers: &[OperationId],
     ) -> Result<Option<u32>, AllocError> {
         let has_conflict = self.turn_round(order, literals, readers)?;
         let mut step = None;
@@ -252,7 +252,7 @@ impl ClauseReplay {
         order: &mut Propagation<'_>,
         literals: &[Literal],
         step: Option<u32>,
-        core: &[u32],
+        core: &[OperationId],
     ) -> Result<Replayed, AllocError> {
         let Some(derived) = step else {
             return Ok(Replayed::Done);
@@ -287,7 +287,7 @@ impl ClauseReplay {
         &mut self,
         order: &mut Propagation<'_>,
         literals: &[Literal],
-        readers: &[u32],
+        readers: &[OperationId],
     ) -> Result<bool, AllocError> {
         for literal in literals {
             match order.decide(literal.second, literal.first) {
@@ -300,7 +300,11 @@ impl ClauseReplay {
     }
 
     /// Propagates, and looks at the readers again as long as something new follows. Returns whether that ends in a conflict.
-    fn follow(&mut self, order: &mut Propagation<'_>, readers: &[u32]) -> Result<bool, AllocError> {
+    fn follow(
+        &mut self,
+        order: &mut Propagation<'_>,
+        readers: &[OperationId],
+    ) -> Result<bool, AllocError> {
         for _ in 0..MOST_LOOKS {
             let before = order.pairs().count();
             order.look_again_at(readers);
@@ -319,7 +323,7 @@ impl ClauseReplay {
         &mut self,
         order: &mut Propagation<'_>,
         literals: &[Literal],
-        core: &[u32],
+        core: &[OperationId],
     ) -> Result<Replayed, AllocError> {
         let clause = self.clauses.count().wrapping_sub(1);
         let before = order.pairs().count();

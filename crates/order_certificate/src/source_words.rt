@@ -1,7 +1,7 @@
 //! Lines that a reader has a source, with the pieces that say of each lost source why it is none.
 
 use crate::explanation::Explanation;
-use numbered_log::{NOBODY, NumberedLog, NumberedOrigin};
+use numbered_log::{NO_NUMBER, NOBODY, NumberedLog, NumberedOrigin, OperationId, ProcessPlace};
 use order_propagation::Propagation;
 use possible_sources::{LossCause, Time};
 use std::alloc::AllocError;
@@ -19,7 +19,7 @@ fn bound_at(order: &Propagation<'_>, last_bound: u32, last_loss: u32, time: Time
     let mut bound = last_bound;
     let mut number = last_loss;
     for _ in 0..order.sources().losses() {
-        if number == NOBODY {
+        if number == NO_NUMBER {
             break;
         }
         let loss = order.sources().loss(number);
@@ -34,7 +34,7 @@ fn bound_at(order: &Propagation<'_>, last_bound: u32, last_loss: u32, time: Time
 }
 
 /// Returns whether the reading operation may read the initial value by the trace's values and origins alone.
-fn wants_initial(log: &NumberedLog, reader: u32) -> bool {
+fn wants_initial(log: &NumberedLog, reader: OperationId) -> bool {
     let operation = log.operation(reader);
     if matches!(operation.origin, NumberedOrigin::Operation(_origin)) {
         return false;
@@ -43,9 +43,9 @@ fn wants_initial(log: &NumberedLog, reader: u32) -> bool {
 }
 
 /// The last writer of the reader's location before it in its process, or `NOBODY`.
-fn own_writer(log: &NumberedLog, reader: u32) -> u32 {
+fn own_writer(log: &NumberedLog, reader: OperationId) -> OperationId {
     let operation = log.operation(reader);
-    for place in (1..operation.place).rev() {
+    for place in (1..operation.place.number()).rev().map(ProcessPlace::new) {
         let number = log.number(operation.process, place);
         let other = log.operation(number);
         if other.writes && other.location == operation.location {
@@ -61,15 +61,15 @@ impl Explanation {
     pub(crate) fn begin_sources(
         &mut self,
         order: &Propagation<'_>,
-        reader: u32,
+        reader: OperationId,
         time: Time,
     ) -> Result<(), AllocError> {
-        if reader < order.log().count() {
+        if !order.log().is_final(reader) {
             self.lines.begin(b's')?;
             self.lines.operation(reader)?;
         } else {
             self.lines.begin(b'l')?;
-            let location = reader.wrapping_sub(order.log().count());
+            let location = order.log().final_location(reader);
             self.lines.location(location)?;
         }
         self.add_pieces(order, reader, time)
@@ -79,7 +79,7 @@ impl Explanation {
     pub(crate) fn add_pieces(
         &mut self,
         order: &Propagation<'_>,
-        reader: u32,
+        reader: OperationId,
         time: Time,
     ) -> Result<(), AllocError> {
         self.lows.clear();
@@ -87,7 +87,7 @@ impl Explanation {
         for run in 0..order.sources().intervals(reader) {
             self.add_interval(order, reader, run, time)?;
         }
-        if reader < order.log().count() {
+        if !order.log().is_final(reader) {
             self.add_initial(order, reader, time)?;
         }
         Ok(())
@@ -97,7 +97,7 @@ impl Explanation {
     fn add_interval(
         &mut self,
         order: &Propagation<'_>,
-        reader: u32,
+        reader: OperationId,
         run: u32,
         time: Time,
     ) -> Result<(), AllocError> {
@@ -114,7 +114,7 @@ impl Explanation {
             self.lines.operation(cause.witness)?;
             self.lines.operation(cause.writer)?;
             self.ask(order, cause.writer, cause.witness, cause.time)?;
-            if reader < order.log().count() {
+            if !order.log().is_final(reader) {
                 self.ask(order, cause.witness, reader, cause.time)?;
             }
         }
@@ -138,7 +138,7 @@ impl Explanation {
     fn add_initial(
         &mut self,
         order: &Propagation<'_>,
-        reader: u32,
+        reader: OperationId,
         time: Time,
     ) -> Result<(), AllocError> {
         if !wants_initial(order.log(), reader) {
@@ -149,7 +149,7 @@ impl Explanation {
             return self.add_hidden_initial(writer);
         }
         let lost = order.sources().initial_loss(reader);
-        if lost != NOBODY {
+        if lost != NO_NUMBER {
             let cause = order.sources().loss(lost).cause;
             if cause.time.is_before(time) {
                 self.ask(order, cause.witness, reader, cause.time)?;
@@ -160,14 +160,14 @@ impl Explanation {
     }
 
     /// Adds the piece that this witness hides the initial value.
-    fn add_hidden_initial(&mut self, witness: u32) -> Result<(), AllocError> {
+    fn add_hidden_initial(&mut self, witness: OperationId) -> Result<(), AllocError> {
         self.is_lost |= witness == NOBODY;
         self.lines.letter(b'i')?;
         self.lines.operation(witness)
     }
 
     /// The first source of the interval that was left, or `NOBODY`.
-    pub(crate) fn first_left(&self, order: &Propagation<'_>, run: u32) -> u32 {
+    pub(crate) fn first_left(&self, order: &Propagation<'_>, run: u32) -> OperationId {
         let low = at(self.lows.as_slice(), run, 0);
         if low < at(self.highs.as_slice(), run, 0) {
             order.classes().writer(low)
@@ -177,7 +177,7 @@ impl Explanation {
     }
 
     /// The last source of the interval that was left, or `NOBODY`.
-    pub(crate) fn last_left(&self, order: &Propagation<'_>, run: u32) -> u32 {
+    pub(crate) fn last_left(&self, order: &Propagation<'_>, run: u32) -> OperationId {
         let high = at(self.highs.as_slice(), run, 0);
         if at(self.lows.as_slice(), run, 0) < high {
             order.classes().writer(high.wrapping_sub(1))

@@ -3,7 +3,7 @@
 use crate::derivation_steps::DerivationHint;
 use crate::explanation::{DerivedPair, Explanation, NOTHING_DERIVED};
 use conflict_analysis::Literal;
-use numbered_log::NOBODY;
+use numbered_log::NO_NUMBER;
 use order_propagation::Propagation;
 use std::alloc::AllocError;
 use total_tables::{at, size};
@@ -31,7 +31,7 @@ impl Explanation {
 
     /// Returns whether what was derived is a pair with a step of its own.
     fn has_unit(&self, order: &Propagation<'_>, derived: DerivedPair) -> bool {
-        self.has_units && derived.pair != NOBODY && order.pairs().pair(derived.pair).level == 0
+        self.has_units && derived.pair != NO_NUMBER && order.pairs().pair(derived.pair).level == 0
     }
 
     /// Derives each pair of no decision by a step of its own.
@@ -74,7 +74,7 @@ impl Explanation {
         derived: DerivedPair,
     ) -> Result<(), AllocError> {
         for place in derived.begin..derived.end {
-            let fact = at(self.fact_numbers.as_slice(), place, NOBODY);
+            let fact = at(self.fact_numbers.as_slice(), place, NO_NUMBER);
             self.add_fact_hints(order, fact)?;
         }
         if let Some(hint) = derived.hint {
@@ -88,7 +88,7 @@ impl Explanation {
         let fact = self.facts.fact(number);
         for place in fact.begin..fact.end {
             let step = self.marks.step(self.facts.pair(place));
-            if step != NOBODY {
+            if step != NO_NUMBER {
                 self.hints.add(DerivationHint::Step(step))?;
             }
         }
@@ -106,7 +106,7 @@ impl Explanation {
     /// The line of the fact's cycle.
     fn cycle_line(&mut self, order: &Propagation<'_>, number: u32) -> Result<u32, AllocError> {
         let fact = self.facts.fact(number);
-        if fact.line != NOBODY {
+        if fact.line != NO_NUMBER {
             return Ok(fact.line);
         }
         self.lines.begin(b'c')?;

@@ -1,7 +1,7 @@
 //! Operations of which none can come before the others: a conflict.
 
 use crate::explanation::Explanation;
-use numbered_log::NOBODY;
+use numbered_log::{NO_NUMBER, NOBODY, OperationId, ProcessId, ProcessPlace};
 use order_propagation::Propagation;
 use std::alloc::{AllocError, Global};
 use total_tables::{at, put};
@@ -10,7 +10,7 @@ use total_tables::{at, put};
 /// left by then is stuck, whatever was placed when.
 pub(crate) struct StuckHeads {
     /// For each process the place of its next operation.
-    fronts: Vec<u32>,
+    fronts: Vec<ProcessPlace>,
     /// The processes of a set of which no next operation can come before another of them.
     is_in_set: Vec<bool>,
     looked: u64,
@@ -35,7 +35,7 @@ impl StuckHeads {
     ) -> Result<Option<StuckHeads>, AllocError> {
         let processes = order.log().processes();
         let mut heads = StuckHeads {
-            fronts: vec![in alloc; 1; processes as usize]?,
+            fronts: vec![in alloc; ProcessPlace::FIRST; processes as usize]?,
             is_in_set: vec![in alloc; false; processes as usize]?,
             looked: 0,
         };
@@ -45,14 +45,14 @@ impl StuckHeads {
         Ok(if is_stuck { Some(heads) } else { None })
     }
 
-    fn front(&self, process: u32) -> u32 {
-        at(self.fronts.as_slice(), process, NOBODY)
+    fn front(&self, process: ProcessId) -> ProcessPlace {
+        at(self.fronts.as_slice(), process.number(), ProcessPlace::FAR)
     }
 
     /// The next operation of the process, or `NOBODY`.
-    fn head(&self, order: &Propagation<'_>, process: u32) -> u32 {
+    fn head(&self, order: &Propagation<'_>, process: ProcessId) -> OperationId {
         let front = self.front(process);
-        if front <= order.log().length(process) {
+        if front <= order.log().last_place(process) {
             order.log().number(process, front)
         } else {
             NOBODY
@@ -60,15 +60,15 @@ impl StuckHeads {
     }
 
     /// Returns whether the process belongs to the set.
-    fn is_member(&self, process: u32) -> bool {
-        at(self.is_in_set.as_slice(), process, false)
+    fn is_member(&self, process: ProcessId) -> bool {
+        at(self.is_in_set.as_slice(), process.number(), false)
     }
 
     /// Places operations of one process after the other, until none goes on.
     fn place_all(&mut self, order: &Propagation<'_>) {
         for _ in 0..order.log().count() {
             let mut goes_on = false;
-            for process in 0..order.log().processes() {
+            for process in order.log().process_ids() {
                 goes_on |= self.place_some(order, process);
             }
             if !goes_on {
@@ -78,24 +78,26 @@ impl StuckHeads {
     }
 
     /// Places the next operations of the process up to the first that is stuck. Returns whether there are any.
-    fn place_some(&mut self, order: &Propagation<'_>, process: u32) -> bool {
+    fn place_some(&mut self, order: &Propagation<'_>, process: ProcessId) -> bool {
         let begin = self.front(process);
-        for place in begin..order.log().length(process).wrapping_add(1) {
+        for place in begin.up_to(order.log().end(process)) {
             let number = order.log().number(process, place);
             self.looked = self.looked.wrapping_add(order.log().processes() as u64);
-            if self.blocking(order, number) != NOBODY || !self.has_placed_source(order, number) {
+            if self.blocking(order, number) != ProcessId::NONE
+                || !self.has_placed_source(order, number)
+            {
                 break;
             }
-            put(self.fronts.as_mut_slice(), process, place.wrapping_add(1));
+            put(self.fronts.as_mut_slice(), process.number(), place.next());
         }
         self.front(process) > begin
     }
 
-    /// A process whose next operation, or one behind it, stands before this one: one of the set if there is one, or `NOBODY`.
-    fn blocking(&self, order: &Propagation<'_>, number: u32) -> u32 {
+    /// A process whose next operation, or one behind it, stands before this one: one of the set if there is one, or none.
+    fn blocking(&self, order: &Propagation<'_>, number: OperationId) -> ProcessId {
         let own = order.log().operation(number).process;
-        let mut found = NOBODY;
-        for process in 0..order.log().processes() {
+        let mut found = ProcessId::NONE;
+        for process in order.log().process_ids() {
             if process != own && order.rows().before(number, process) >= self.front(process) {
                 if self.is_member(process) {
                     return process;
@@ -107,7 +109,7 @@ impl StuckHeads {
     }
 
     /// Returns whether the operation reads nothing, or has a possible source that is placed.
-    fn has_placed_source(&self, order: &Propagation<'_>, number: u32) -> bool {
+    fn has_placed_source(&self, order: &Propagation<'_>, number: OperationId) -> bool {
         if !order.log().operation(number).reads || order.sources().has_initial(number) {
             return true;
         }
@@ -120,7 +122,7 @@ impl StuckHeads {
     }
 
     /// Returns whether the interval has a source that is placed.
-    fn has_placed(&self, order: &Propagation<'_>, number: u32, run: u32) -> bool {
+    fn has_placed(&self, order: &Propagation<'_>, number: OperationId, run: u32) -> bool {
         let low = order.sources().low(number, run);
         let writer = order.log().operation(order.classes().writer(low));
         low < order.sources().high(number, run) && writer.place < self.front(writer.process)
@@ -129,9 +131,9 @@ impl StuckHeads {
     /// Chooses a small set, grown from one stuck process. Returns whether there is one. It is small since the line names each member and
     /// what that one rests on.
     fn choose_set(&mut self, alloc: Global, order: &Propagation<'_>) -> Result<bool, AllocError> {
-        let mut smallest = NOBODY;
-        let mut best = NOBODY;
-        for process in 0..order.log().processes() {
+        let mut smallest = NO_NUMBER;
+        let mut best = ProcessId::NONE;
+        for process in order.log().process_ids() {
             if self.head(order, process) != NOBODY {
                 let count = self.grow_from(alloc, order, process)?;
                 if count < smallest {
@@ -140,7 +142,7 @@ impl StuckHeads {
                 }
             }
         }
-        if best == NOBODY {
+        if best == ProcessId::NONE {
             return Ok(false);
         }
         self.grow_from(alloc, order, best)?;
@@ -152,11 +154,11 @@ impl StuckHeads {
         &mut self,
         alloc: Global,
         order: &Propagation<'_>,
-        process: u32,
+        process: ProcessId,
     ) -> Result<u32, AllocError> {
         let processes = order.log().processes();
         self.is_in_set = vec![in alloc; false; processes as usize]?;
-        let mut due: Vec<u32> = Vec::new(alloc);
+        let mut due: Vec<ProcessId> = Vec::new(alloc);
         self.join(process, &mut due)?;
         let mut count: u32 = 0;
         for _ in 0..processes {
@@ -167,7 +169,7 @@ impl StuckHeads {
             self.looked = self.looked.wrapping_add(processes as u64);
             let number = self.head(order, next);
             let blocking = self.blocking(order, number);
-            if blocking != NOBODY {
+            if blocking != ProcessId::NONE {
                 self.join(blocking, &mut due)?;
             } else {
                 self.join_sources(order, number, &mut due)?;
@@ -180,8 +182,8 @@ impl StuckHeads {
     fn join_sources(
         &mut self,
         order: &Propagation<'_>,
-        number: u32,
-        due: &mut Vec<u32>,
+        number: OperationId,
+        due: &mut Vec<ProcessId>,
     ) -> Result<(), AllocError> {
         for run in 0..order.sources().intervals(number) {
             if order.sources().low(number, run) < order.sources().high(number, run) {
@@ -192,9 +194,9 @@ impl StuckHeads {
         Ok(())
     }
 
-    fn join(&mut self, process: u32, due: &mut Vec<u32>) -> Result<(), AllocError> {
-        if !at(self.is_in_set.as_slice(), process, true) {
-            put(self.is_in_set.as_mut_slice(), process, true);
+    fn join(&mut self, process: ProcessId, due: &mut Vec<ProcessId>) -> Result<(), AllocError> {
+        if !at(self.is_in_set.as_slice(), process.number(), true) {
+            put(self.is_in_set.as_mut_slice(), process.number(), true);
             due.push(process)?;
         }
         Ok(())
@@ -209,13 +211,13 @@ impl Explanation {
         heads: &StuckHeads,
     ) -> Result<(), AllocError> {
         self.lines.begin(b'w')?;
-        for process in 0..order.log().processes() {
+        for process in order.log().process_ids() {
             if heads.is_member(process) {
                 self.ask_head(order, heads, heads.head(order, process))?;
             }
         }
         let hint = self.finish_line()?;
-        self.note_derived(NOBODY, hint)
+        self.note_derived(NO_NUMBER, hint)
     }
 
     /// Asks why this member cannot come before all others.
@@ -223,10 +225,10 @@ impl Explanation {
         &mut self,
         order: &Propagation<'_>,
         heads: &StuckHeads,
-        number: u32,
+        number: OperationId,
     ) -> Result<(), AllocError> {
         let blocking = heads.blocking(order, number);
-        if blocking == NOBODY {
+        if blocking == ProcessId::NONE {
             self.lines.letter(b'r')?;
             self.lines.operation(number)?;
             return self.add_pieces(order, number, order.later());

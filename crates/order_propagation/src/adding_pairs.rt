@@ -3,11 +3,17 @@
 use crate::conflict::{Conflict, Stop};
 use crate::propagation::Propagation;
 use closed_rows::{PairReason, RowEntry};
+use numbered_log::{LocationId, OperationId, ProcessId, ProcessPlace};
 use std::alloc::AllocError;
 
 impl<'a> Propagation<'a> {
     /// Adds the pair of which the first operation must stand before the second. If the budget is spent, it is left out.
-    pub fn add(&mut self, first: u32, second: u32, reason: PairReason) -> Result<(), Stop> {
+    pub fn add(
+        &mut self,
+        first: OperationId,
+        second: OperationId,
+        reason: PairReason,
+    ) -> Result<(), Stop> {
         if first == second || self.stands_before(second, first) {
             return self.stop_at_cycle(first, second, reason);
         }
@@ -39,8 +45,8 @@ impl<'a> Propagation<'a> {
     /// Keeps that the pair closes a cycle. A decision has no other reason, so it is stored as a pair of the cycle.
     fn stop_at_far_cycle(
         &mut self,
-        first: u32,
-        second: u32,
+        first: OperationId,
+        second: OperationId,
         reason: PairReason,
     ) -> Result<(), Stop> {
         if reason == PairReason::Decided {
@@ -54,10 +60,10 @@ impl<'a> Propagation<'a> {
     /// Returns whether the pair closes a cycle by the rows: some operation stands after the second one, or is it, and stands before the first one,
     /// or is it. While a walk looks only at what is in reach, the rows may know that of others than these two. In rows of a cycle an operation would
     /// stand before itself, and what follows of that would have no reason.
-    fn closes_cycle(&self, first: u32, second: u32) -> bool {
+    fn closes_cycle(&self, first: OperationId, second: OperationId) -> bool {
         let earlier = self.log.operation(first);
         let later = self.log.operation(second);
-        for process in 0..self.rows.width() {
+        for process in ProcessId::first(self.rows.width()) {
             let mut last = self.rows.before(first, process);
             if process == earlier.process {
                 last = earlier.place;
@@ -66,7 +72,7 @@ impl<'a> Propagation<'a> {
             if process == later.process {
                 next = later.place;
             }
-            if last != 0 && next <= last {
+            if last != ProcessPlace::START && next <= last {
                 return true;
             }
         }
@@ -76,10 +82,10 @@ impl<'a> Propagation<'a> {
     /// Raises the rows of the process's operations from this place on, up to the first that has the pair's first operation already: rows are
     /// closed and grow along a process, so all behind it have what the pair says. Of what is too far ahead of the front only the first is raised:
     /// the others are when they come into reach.
-    fn raise_from(&mut self, bound: RowEntry, first: u32) -> Result<(), AllocError> {
+    fn raise_from(&mut self, bound: RowEntry, first: OperationId) -> Result<(), AllocError> {
         let earlier = self.log.operation(first);
         let end = self.end_of_reach(bound.process, bound.place);
-        for place in bound.place..end {
+        for place in bound.place.up_to(end) {
             let number = self.log.number(bound.process, place);
             if self.rows.before(number, earlier.process) >= earlier.place {
                 break;
@@ -90,9 +96,9 @@ impl<'a> Propagation<'a> {
     }
 
     /// Lowers the rows of the process's operations from this place back, up to the first that has the pair's second operation already.
-    fn lower_from(&mut self, bound: RowEntry, second: u32) -> Result<(), AllocError> {
+    fn lower_from(&mut self, bound: RowEntry, second: OperationId) -> Result<(), AllocError> {
         let later = self.log.operation(second);
-        for place in (1..bound.place.wrapping_add(1)).rev() {
+        for place in bound.place.down_to_first() {
             let number = self.log.number(bound.process, place);
             if self.rows.after(number, later.process) <= later.place {
                 break;
@@ -105,7 +111,7 @@ impl<'a> Propagation<'a> {
     /// Raises what stands before this operation to what the pair says, and wakes the readers to which that is news. To a reader of one source
     /// it is only if an access of its location is among what is new.
     #[inline(always)]
-    fn raise_row(&mut self, number: u32) -> Result<(), AllocError> {
+    fn raise_row(&mut self, number: OperationId) -> Result<(), AllocError> {
         let operation = self.log.operation(number);
         let is_quiet = operation.reads
             && self.sources.count(number) == 1
@@ -116,12 +122,7 @@ impl<'a> Propagation<'a> {
             let old = self.rows.before(number, floor.process);
             if old < floor.place {
                 has_news = has_news
-                    || self.is_accessed(
-                        operation.location,
-                        floor.process,
-                        old.wrapping_add(1),
-                        floor.place,
-                    );
+                    || self.is_accessed(operation.location, floor.process, old.next(), floor.place);
                 self.rows.raise(number, floor)?;
             }
         }
@@ -133,7 +134,7 @@ impl<'a> Propagation<'a> {
 
     /// Lowers what stands after this operation to what the pair says, and wakes the readers to which that is news.
     #[inline(always)]
-    fn lower_row(&mut self, number: u32) -> Result<(), AllocError> {
+    fn lower_row(&mut self, number: OperationId) -> Result<(), AllocError> {
         let operation = self.log.operation(number);
         let mut has_news = !operation.writes;
         for entry in 0..self.rows.ceilings() {
@@ -145,7 +146,7 @@ impl<'a> Propagation<'a> {
                         operation.location,
                         ceiling.process,
                         ceiling.place,
-                        old.wrapping_sub(1),
+                        old.previous(),
                     );
                 self.rows.lower(number, ceiling)?;
             }
@@ -158,7 +159,13 @@ impl<'a> Propagation<'a> {
 
     /// Returns whether the process has an access of the location that hides sources, from one place up to another.
     #[inline(always)]
-    fn is_accessed(&self, location: u32, process: u32, from: u32, to: u32) -> bool {
+    fn is_accessed(
+        &self,
+        location: LocationId,
+        process: ProcessId,
+        from: ProcessPlace,
+        to: ProcessPlace,
+    ) -> bool {
         self.accesses.next_of_any(process, location, from) <= to
     }
 }

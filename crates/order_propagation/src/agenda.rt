@@ -1,6 +1,6 @@
 //! The readers that wait for a look at them.
 
-use numbered_log::NOBODY;
+use numbered_log::{NO_NUMBER, NOBODY, OperationId};
 use std::alloc::{AllocError, Global};
 use total_tables::{at, put, size};
 
@@ -9,12 +9,12 @@ use total_tables::{at, put, size};
 pub struct Agenda {
     waits: Vec<bool>,
     /// The readers of the round.
-    round: Vec<u32>,
+    round: Vec<OperationId>,
     reached: u32,
-    /// For each reader its place in the round, or `NOBODY`.
+    /// For each reader its place in the round, or `NO_NUMBER`.
     places: Vec<u32>,
     /// Those that wait again, in a ring.
-    again: Vec<u32>,
+    again: Vec<OperationId>,
     first: u32,
     count: u32,
 }
@@ -41,7 +41,7 @@ impl Agenda {
             waits: vec![in alloc; false; readers as usize]?,
             round: Vec::with_capacity(alloc, readers as usize)?,
             reached: 0,
-            places: vec![in alloc; NOBODY; readers as usize]?,
+            places: vec![in alloc; NO_NUMBER; readers as usize]?,
             again: vec![in alloc; NOBODY; readers as usize]?,
             first: 0,
             count: 0,
@@ -58,30 +58,30 @@ impl Agenda {
     }
 
     /// Begins a round of these readers, in this order.
-    pub fn begin_round(&mut self, readers: &[u32]) -> Result<(), AllocError> {
+    pub fn begin_round(&mut self, readers: &[OperationId]) -> Result<(), AllocError> {
         self.clear();
         for reader in self.round.as_slice() {
-            put(self.places.as_mut_slice(), *reader, NOBODY);
+            put(self.places.as_mut_slice(), reader.number(), NO_NUMBER);
         }
         self.round.clear();
         self.reached = 0;
         for reader in readers {
             let place = size(self.round.as_slice());
             self.round.push(*reader)?;
-            put(self.places.as_mut_slice(), *reader, place);
-            put(self.waits.as_mut_slice(), *reader, true);
+            put(self.places.as_mut_slice(), reader.number(), place);
+            put(self.waits.as_mut_slice(), reader.number(), true);
         }
         Ok(())
     }
 
     /// Has the reader count as one that waits, without a turn: it is not looked at until a round begins. A reader that waits has its turn before.
-    pub fn let_sleep(&mut self, reader: u32) {
-        put(self.waits.as_mut_slice(), reader, true);
+    pub fn let_sleep(&mut self, reader: OperationId) {
+        put(self.waits.as_mut_slice(), reader.number(), true);
     }
 
     #[inline(always)]
-    pub fn waits(&self, reader: u32) -> bool {
-        at(self.waits.as_slice(), reader, false)
+    pub fn waits(&self, reader: OperationId) -> bool {
+        at(self.waits.as_slice(), reader.number(), false)
     }
 
     /// Returns whether a reader waits again.
@@ -92,13 +92,13 @@ impl Agenda {
 
     /// Has the reader wait.
     #[inline(always)]
-    pub fn add(&mut self, reader: u32) {
+    pub fn add(&mut self, reader: OperationId) {
         if self.waits(reader) {
             return;
         }
-        put(self.waits.as_mut_slice(), reader, true);
-        let place = at(self.places.as_slice(), reader, NOBODY);
-        if place != NOBODY && place >= self.reached {
+        put(self.waits.as_mut_slice(), reader.number(), true);
+        let place = at(self.places.as_slice(), reader.number(), NO_NUMBER);
+        if place != NO_NUMBER && place >= self.reached {
             return;
         }
         let room = size(self.again.as_slice());
@@ -111,7 +111,7 @@ impl Agenda {
     }
 
     /// Takes the next reader.
-    pub fn take(&mut self) -> Option<u32> {
+    pub fn take(&mut self) -> Option<OperationId> {
         if self.count > 0 {
             let reader = at(self.again.as_slice(), self.first, NOBODY);
             self.first = self.first.wrapping_add(1);
@@ -119,14 +119,14 @@ impl Agenda {
                 self.first = 0;
             }
             self.count = self.count.wrapping_sub(1);
-            put(self.waits.as_mut_slice(), reader, false);
+            put(self.waits.as_mut_slice(), reader.number(), false);
             return Some(reader);
         }
         for place in self.reached..size(self.round.as_slice()) {
             self.reached = place.wrapping_add(1);
             let reader = at(self.round.as_slice(), place, NOBODY);
             if self.waits(reader) {
-                put(self.waits.as_mut_slice(), reader, false);
+                put(self.waits.as_mut_slice(), reader.number(), false);
                 return Some(reader);
             }
         }

@@ -1,6 +1,7 @@
 //! How propagation ends.
 
 use closed_rows::OrderedPair;
+use numbered_log::OperationId;
 use std::alloc::AllocError;
 
 /// The conflict in which propagation ended.
@@ -12,7 +13,7 @@ pub enum Conflict {
     /// The pairs that were stored before a sweep are cyclic.
     CyclicPairs,
     /// The reader has no possible source.
-    NoSource(u32),
+    NoSource(OperationId),
 }
 
 /// The reason why work ends before it is done. It stands as an error, so that a `?` leaves all rules that are at work.

@@ -2,14 +2,14 @@
 
 use crate::conflict::{Conflict, Stop};
 use crate::propagation::Propagation;
-use numbered_log::NOBODY;
+use numbered_log::{NOBODY, OperationId, ProcessId, ProcessPlace};
 use possible_sources::LossCause;
 use std::alloc::AllocError;
 use total_tables::at;
 
 impl<'a> Propagation<'a> {
     /// Takes from the reading operation the sources that are hidden or stand after it.
-    pub(crate) fn narrow(&mut self, reader: u32) -> Result<(), Stop> {
+    pub(crate) fn narrow(&mut self, reader: OperationId) -> Result<(), Stop> {
         self.find_hiders(reader)?;
         let mut count: u32 = 0;
         for run in 0..self.sources.intervals(reader) {
@@ -34,16 +34,16 @@ impl<'a> Propagation<'a> {
 
     /// Finds for each process its last access of the reader's location that stands before the reader and is no read of its value: what
     /// stands before that access is hidden. One of each process is enough, since an earlier one hides nothing more.
-    fn find_hiders(&mut self, reader: u32) -> Result<(), AllocError> {
+    fn find_hiders(&mut self, reader: OperationId) -> Result<(), AllocError> {
         let operation = self.log.operation(reader);
         self.hiders.clear();
-        for process in 0..self.rows.width() {
+        for process in ProcessId::first(self.rows.width()) {
             let place = self.rows.before(reader, process);
-            if place != 0 {
+            if place != ProcessPlace::START {
                 let found = self
                     .accesses
                     .previous(process, operation.location, operation.needed, place);
-                if found != 0 {
+                if found != ProcessPlace::START {
                     let hider = self.log.number(process, found);
                     self.hiders.push(hider)?;
                 }
@@ -55,7 +55,7 @@ impl<'a> Propagation<'a> {
     }
 
     /// Narrows the interval, and returns how many sources are left in it.
-    fn narrow_interval(&mut self, reader: u32, run: u32) -> Result<u32, AllocError> {
+    fn narrow_interval(&mut self, reader: OperationId, run: u32) -> Result<u32, AllocError> {
         let mut low = self.sources.low(reader, run);
         let mut high = self.sources.high(reader, run);
         if low >= high {
@@ -71,7 +71,7 @@ impl<'a> Propagation<'a> {
         }
         let ceiling = self.rows.after(reader, process);
         if low < high && self.place_at(high.wrapping_sub(1)) >= ceiling {
-            high = self.first_behind(low, high, ceiling.wrapping_sub(1));
+            high = self.first_behind(low, high, ceiling.previous());
             let writer = self.classes.writer(high);
             let cause = self.cause_of(writer, reader);
             self.sources.end_before(reader, run, high, cause)?;
@@ -80,7 +80,7 @@ impl<'a> Propagation<'a> {
     }
 
     /// The cause of a loss, at a new time.
-    pub(crate) fn cause_of(&mut self, writer: u32, witness: u32) -> LossCause {
+    pub(crate) fn cause_of(&mut self, writer: OperationId, witness: OperationId) -> LossCause {
         self.now = self.now.next();
         LossCause {
             writer,
@@ -90,8 +90,8 @@ impl<'a> Propagation<'a> {
     }
 
     /// The place in the process up to which all stands before one of the hiders, and that hider.
-    fn hidden_up_to(&mut self, process: u32) -> (u32, u32) {
-        let mut floor: u32 = 0;
+    fn hidden_up_to(&mut self, process: ProcessId) -> (ProcessPlace, OperationId) {
+        let mut floor = ProcessPlace::START;
         let mut witness = NOBODY;
         for hider in self.hiders.as_slice() {
             let place = self.rows.before(*hider, process);
@@ -107,12 +107,12 @@ impl<'a> Propagation<'a> {
 
     /// The place of the writer at this position.
     #[inline(always)]
-    fn place_at(&self, position: u32) -> u32 {
+    fn place_at(&self, position: u32) -> ProcessPlace {
         self.log.operation(self.classes.writer(position)).place
     }
 
     /// The first position, from one up to another of a run, whose writer stands behind this place.
-    fn first_behind(&self, begin: u32, end: u32, place: u32) -> u32 {
+    fn first_behind(&self, begin: u32, end: u32, place: ProcessPlace) -> u32 {
         let mut low = begin;
         let mut high = end;
         for _ in 0..32 {

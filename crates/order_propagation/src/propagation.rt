@@ -4,7 +4,7 @@ use crate::agenda::Agenda;
 use crate::conflict::{Conflict, Propagated, Stop};
 use crate::reach::Reach;
 use closed_rows::{ClosedRows, NO_PAIR, OrderedPair, OrderedPairs, PairReason};
-use numbered_log::{Budget, NOBODY, NumberedLog};
+use numbered_log::{Budget, LocationId, NO_NUMBER, NOBODY, NumberedLog, OperationId, ProcessPlace};
 use possible_sources::{HidingAccesses, ReaderClasses, SourceIntervals, Time, ValueClasses};
 use std::alloc::{AllocError, Global};
 use total_tables::{at, put, size};
@@ -21,7 +21,7 @@ struct DecisionLevel {
 const NO_LEVEL: DecisionLevel = DecisionLevel {
     changes: 0,
     losses: 0,
-    pairs: NOBODY,
+    pairs: NO_NUMBER,
 };
 
 /// A point of the trail without decisions, to which it can be cut. The rows then have to be made anew, since their changes are kept only
@@ -52,10 +52,10 @@ pub struct Propagation<'a> {
     /// For each operation whether the final value of its location has to be looked at when its row changes.
     pub(crate) is_near_end: Vec<bool>,
     /// The accesses that hide sources from the reader at hand, one of each process.
-    pub(crate) hiders: Vec<u32>,
+    pub(crate) hiders: Vec<OperationId>,
     /// For each process a place: up to which all is before the reader at hand, and after which all is behind its sources.
-    pub(crate) lows: Vec<u32>,
-    pub(crate) highs: Vec<u32>,
+    pub(crate) lows: Vec<ProcessPlace>,
+    pub(crate) highs: Vec<ProcessPlace>,
     pub(crate) reach: Reach,
 }
 
@@ -93,9 +93,9 @@ fn hiding(
     sources: &SourceIntervals,
 ) -> Result<Vec<bool>, AllocError> {
     let mut hides = vec![in alloc; false; log.count() as usize]?;
-    for number in 0..log.count() {
+    for number in log.operation_ids() {
         let is_hiding = log.operation(number).writes || sources.has_several(number);
-        put(hides.as_mut_slice(), number, is_hiding);
+        put(hides.as_mut_slice(), number.number(), is_hiding);
     }
     Ok(hides)
 }
@@ -132,8 +132,8 @@ impl<'a> Propagation<'a> {
             is_open_source: vec![in alloc; false; count]?,
             is_near_end: vec![in alloc; false; count]?,
             hiders: Vec::with_capacity(alloc, width)?,
-            lows: vec![in alloc; 0; width]?,
-            highs: vec![in alloc; 0; width]?,
+            lows: vec![in alloc; ProcessPlace::START; width]?,
+            highs: vec![in alloc; ProcessPlace::START; width]?,
             reach: Reach::new(alloc, log.processes())?,
         };
         order.store_first_pairs()?;
@@ -152,7 +152,7 @@ impl<'a> Propagation<'a> {
             };
             self.store(pair.first, pair.second, reason)?;
         }
-        for reader in 0..log.count() {
+        for reader in log.operation_ids() {
             if self.sources.count(reader) == 1 {
                 let source = self.sources.source(&self.classes, reader);
                 if source != NOBODY && !self.stands_before(source, reader) {
@@ -169,7 +169,7 @@ impl<'a> Propagation<'a> {
     /// Notes which operations are near the end of a process, for the final values.
     fn note_ends(&mut self) {
         let log = self.log;
-        for location in 0..log.locations() {
+        for location in log.location_ids() {
             let reader = self.final_reader(location);
             let Some(value) = log.last(location) else {
                 continue;
@@ -177,19 +177,19 @@ impl<'a> Propagation<'a> {
             if self.sources.count(reader) == 0 {
                 self.conflict = Conflict::NoSource(reader);
             }
-            for process in 0..log.processes() {
-                let length = log.length(process);
-                let place = self.accesses.previous(process, location, value, length);
-                if place != 0 {
+            for process in log.process_ids() {
+                let last = log.last_place(process);
+                let place = self.accesses.previous(process, location, value, last);
+                if place != ProcessPlace::START {
                     let number = log.number(process, place);
-                    put(self.is_near_end.as_mut_slice(), number, true);
+                    put(self.is_near_end.as_mut_slice(), number.number(), true);
                 }
             }
             for run in 0..self.sources.intervals(reader) {
                 let low = self.sources.low(reader, run);
                 if low < self.sources.high(reader, run) {
                     let writer = self.classes.writer(low);
-                    put(self.is_near_end.as_mut_slice(), writer, true);
+                    put(self.is_near_end.as_mut_slice(), writer.number(), true);
                 }
             }
         }
@@ -198,8 +198,8 @@ impl<'a> Propagation<'a> {
     /// Stores a pair without a look at rows.
     pub(crate) fn store(
         &mut self,
-        first: u32,
-        second: u32,
+        first: OperationId,
+        second: OperationId,
         reason: PairReason,
     ) -> Result<(), AllocError> {
         self.now = self.now.next();
@@ -271,18 +271,18 @@ impl<'a> Propagation<'a> {
 
     /// Returns whether the first operation stands before the second.
     #[inline(always)]
-    pub fn stands_before(&self, first: u32, second: u32) -> bool {
+    pub fn stands_before(&self, first: OperationId, second: OperationId) -> bool {
         self.rows.stands_before(self.log, first, second)
     }
 
     /// The number of the final value of the location among the readers.
     #[inline(always)]
-    pub fn final_reader(&self, location: u32) -> u32 {
-        self.log.count().wrapping_add(location)
+    pub fn final_reader(&self, location: LocationId) -> OperationId {
+        self.log.final_reader(location)
     }
 
     /// The source of the reader if it has only one.
-    pub fn only_source(&self, reader: u32) -> Option<u32> {
+    pub fn only_source(&self, reader: OperationId) -> Option<OperationId> {
         if self.sources.count(reader) == 1 {
             Some(self.sources.source(&self.classes, reader))
         } else {
@@ -292,14 +292,14 @@ impl<'a> Propagation<'a> {
 
     /// Returns whether the writer is a possible source of the reader.
     #[inline(always)]
-    pub fn may_read(&self, reader: u32, writer: u32) -> bool {
+    pub fn may_read(&self, reader: OperationId, writer: OperationId) -> bool {
         self.sources.may_read(&self.classes, reader, writer)
     }
 
     /// The number of reading operations that have more than one possible source.
     pub fn undecided(&self) -> u32 {
         let mut count: u32 = 0;
-        for reader in 0..self.log.count() {
+        for reader in self.log.operation_ids() {
             if self.sources.has_several(reader) {
                 count = count.wrapping_add(1);
             }
@@ -314,7 +314,7 @@ impl<'a> Propagation<'a> {
     }
 
     /// Decides that the first operation stands before the second.
-    pub fn decide(&mut self, first: u32, second: u32) -> Result<(), Stop> {
+    pub fn decide(&mut self, first: OperationId, second: OperationId) -> Result<(), Stop> {
         let level = DecisionLevel {
             changes: self.rows.keep_changes(),
             losses: self.sources.losses(),
@@ -368,8 +368,8 @@ impl<'a> Propagation<'a> {
     /// Keeps that the pair cannot be added, as its second operation stands before its first.
     pub(crate) fn stop_at_cycle(
         &mut self,
-        first: u32,
-        second: u32,
+        first: OperationId,
+        second: OperationId,
         reason: PairReason,
     ) -> Result<(), Stop> {
         self.now = self.now.next();
@@ -386,7 +386,7 @@ impl<'a> Propagation<'a> {
 
     /// Stores a guess: that the first operation stands before the second. The rows have it after `propagate_in_rounds`. If there is no room
     /// for more pairs, the budget counts as spent.
-    pub fn guess(&mut self, first: u32, second: u32) -> Result<(), AllocError> {
+    pub fn guess(&mut self, first: OperationId, second: OperationId) -> Result<(), AllocError> {
         if self.pairs.is_full() {
             self.budget.use_up();
             return Ok(());

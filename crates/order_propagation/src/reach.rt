@@ -2,15 +2,15 @@
 
 use crate::propagation::Propagation;
 use closed_rows::RowEntry;
-use numbered_log::Operation;
+use numbered_log::{Operation, OperationId, ProcessId, ProcessPlace};
 use std::alloc::{AllocError, Global};
-use total_tables::{at, put, size};
+use total_tables::{at, put};
 
 /// For each process the place of its next operation, and how far from it readers are looked at while decisions stand. What lies far ahead
 /// says little of what comes next, and most decisions are taken back before it does.
 #[derive(Drop)]
 pub(crate) struct Reach {
-    fronts: Vec<u32>,
+    fronts: Vec<ProcessPlace>,
     /// A number of places; 0 if all are in reach.
     width: u32,
 }
@@ -19,21 +19,25 @@ impl Reach {
     /// All is in reach, of this number of processes.
     pub(crate) fn new(alloc: Global, processes: u32) -> Result<Reach, AllocError> {
         Ok(Reach {
-            fronts: vec![in alloc; 1; processes as usize]?,
+            fronts: vec![in alloc; ProcessPlace::FIRST; processes as usize]?,
             width: 0,
         })
     }
 
     /// The process's next place.
     #[inline(always)]
-    fn front(&self, process: u32) -> u32 {
-        at(self.fronts.as_slice(), process, 0)
+    fn front(&self, process: ProcessId) -> ProcessPlace {
+        at(
+            self.fronts.as_slice(),
+            process.number(),
+            ProcessPlace::START,
+        )
     }
 
     /// The process's last place in reach.
     #[inline(always)]
-    fn last(&self, process: u32) -> u32 {
-        self.front(process).saturating_add(self.width)
+    fn last(&self, process: ProcessId) -> ProcessPlace {
+        self.front(process).ahead(self.width)
     }
 
     #[inline(always)]
@@ -43,7 +47,7 @@ impl Reach {
 
     #[inline(always)]
     fn is_behind(&self, operation: Operation) -> bool {
-        operation.place.saturating_add(self.width) < self.front(operation.process)
+        operation.place.ahead(self.width) < self.front(operation.process)
     }
 }
 
@@ -52,27 +56,35 @@ impl<'a> Propagation<'a> {
     /// them, if it is 0.
     pub fn set_reach(&mut self, width: u32) {
         self.reach.width = width;
-        for process in 0..size(self.reach.fronts.as_slice()) {
-            put(self.reach.fronts.as_mut_slice(), process, 1);
+        for process in self.log.process_ids() {
+            put(
+                self.reach.fronts.as_mut_slice(),
+                process.number(),
+                ProcessPlace::FIRST,
+            );
         }
     }
 
     /// Sets the place of the process's next operation.
-    pub fn set_front(&mut self, process: u32, place: u32) {
-        put(self.reach.fronts.as_mut_slice(), process, place);
+    pub fn set_front(&mut self, process: ProcessId, place: ProcessPlace) {
+        put(self.reach.fronts.as_mut_slice(), process.number(), place);
     }
 
     /// Sets the place of the process's next operation, one further on. What comes into reach is looked at.
-    pub fn move_front(&mut self, process: u32, place: u32) -> Result<(), AllocError> {
+    pub fn move_front(
+        &mut self,
+        process: ProcessId,
+        place: ProcessPlace,
+    ) -> Result<(), AllocError> {
         self.set_front(process, place);
         let last = self.reach.last(process);
-        if self.reach.width == 0 || last > self.log.length(process) {
+        if self.reach.width == 0 || last > self.log.last_place(process) {
             return Ok(());
         }
         let number = self.log.number(process, last);
         let operation = self.log.operation(number);
-        if last > 1 {
-            self.raise_to_earlier(number, number.wrapping_sub(1))?;
+        if last > ProcessPlace::FIRST {
+            self.raise_to_earlier(number, number.previous())?;
         }
         if operation.reads {
             self.agenda.add(number);
@@ -84,9 +96,13 @@ impl<'a> Propagation<'a> {
     }
 
     /// Raises the row of what stands before the operation to that of one before it in its process.
-    fn raise_to_earlier(&mut self, number: u32, earlier: u32) -> Result<(), AllocError> {
+    fn raise_to_earlier(
+        &mut self,
+        number: OperationId,
+        earlier: OperationId,
+    ) -> Result<(), AllocError> {
         let own = self.log.operation(number).process;
-        for process in 0..self.rows.width() {
+        for process in ProcessId::first(self.rows.width()) {
             let place = self.rows.before(earlier, process);
             if process != own && place > self.rows.before(number, process) {
                 self.rows.raise(number, RowEntry { process, place })?;
@@ -98,7 +114,7 @@ impl<'a> Propagation<'a> {
 
     /// Raises the row of what stands before the operation, if it is too far ahead of the front, to that of the last one in reach.
     #[inline(always)]
-    pub(crate) fn catch_up(&mut self, number: u32) -> Result<(), AllocError> {
+    pub(crate) fn catch_up(&mut self, number: OperationId) -> Result<(), AllocError> {
         let operation = self.log.operation(number);
         if self.is_reaching() && self.reach.is_ahead(operation) {
             let last = self.reach.last(operation.process);
@@ -110,21 +126,23 @@ impl<'a> Propagation<'a> {
 
     /// The place behind the process's last operation in reach, or behind this place, if that is later; behind all if no decision stands.
     #[inline(always)]
-    pub(crate) fn end_of_reach(&self, process: u32, place: u32) -> u32 {
-        let end = self.log.length(process).wrapping_add(1);
+    pub(crate) fn end_of_reach(&self, process: ProcessId, place: ProcessPlace) -> ProcessPlace {
+        let end = self.log.end(process);
         if !self.is_reaching() {
             return end;
         }
-        end.min(self.reach.last(process).max(place).saturating_add(1))
+        end.earlier(self.reach.last(process).later(place).ahead(1))
     }
 
     /// Wakes the readers in reach that have the writer at an end of their interval, of these positions of its class.
-    pub(crate) fn wake_in_reach(&mut self, writer: u32, positions: (u32, u32), all: bool) {
+    pub(crate) fn wake_in_reach(&mut self, writer: OperationId, positions: (u32, u32), all: bool) {
         let (begin, end) = positions;
         let mut position = begin;
-        for process in 0..self.log.processes() {
+        for process in self.log.process_ids() {
             let first = self.log.number(process, self.reach.front(process));
-            let last = self.log.number(process, self.end_of_reach(process, 0));
+            let last = self
+                .log
+                .number(process, self.end_of_reach(process, ProcessPlace::START));
             position = self.readers.first_from(position, end, first);
             for _ in position..end {
                 if self.readers.reader(position) >= last {
@@ -141,10 +159,10 @@ impl<'a> Propagation<'a> {
 
     /// Has all readers in reach wait, from the fronts on up to this number of places.
     pub fn wake_from_fronts(&mut self, places: u32) {
-        for process in 0..self.log.processes() {
+        for process in self.log.process_ids() {
             let front = self.reach.front(process);
-            let end = self.log.length(process).wrapping_add(1);
-            for place in front..end.min(front.saturating_add(places)) {
+            let end = self.log.end(process);
+            for place in front.up_to(end.earlier(front.ahead(places))) {
                 let number = self.log.number(process, place);
                 if self.log.operation(number).reads {
                     self.agenda.add(number);
@@ -177,7 +195,7 @@ impl<'a> Propagation<'a> {
 
     /// Has the reading operation wait, unless it is too far ahead of the front.
     #[inline(always)]
-    pub(crate) fn wake(&mut self, reader: u32) {
+    pub(crate) fn wake(&mut self, reader: OperationId) {
         if self.is_reaching() && self.reach.is_ahead(self.log.operation(reader)) {
             return;
         }

@@ -3,19 +3,16 @@
 use crate::conflict::{Conflict, Stop};
 use crate::propagation::Propagation;
 use closed_rows::PairReason;
-use numbered_log::NOBODY;
+use numbered_log::{LocationId, NOBODY, OperationId, ProcessId, ProcessPlace};
 use std::alloc::AllocError;
 use total_tables::{at, put};
 
-/// A place behind all others.
-const FAR: u32 = u32::MAX;
-
 impl<'a> Propagation<'a> {
     /// Derives what follows from the reader.
-    pub(crate) fn look_at(&mut self, reader: u32) -> Result<(), Stop> {
+    pub(crate) fn look_at(&mut self, reader: OperationId) -> Result<(), Stop> {
         self.budget
             .spend((self.rows.width() as u64).wrapping_mul(8));
-        if reader >= self.log.count() {
+        if self.log.is_final(reader) {
             return self.look_at_final(reader);
         }
         // If an only source is hidden or comes too late, what follows of it closes a cycle, so it is not looked for here.
@@ -33,12 +30,15 @@ impl<'a> Propagation<'a> {
     }
 
     /// The reader reads the initial value, so all accesses that are no read of it stand after the reader.
-    fn follow_initial(&mut self, reader: u32) -> Result<(), Stop> {
+    fn follow_initial(&mut self, reader: OperationId) -> Result<(), Stop> {
         let operation = self.log.operation(reader);
-        for process in 0..self.rows.width() {
-            let place = self
-                .accesses
-                .next(process, operation.location, operation.needed, 1);
+        for process in ProcessId::first(self.rows.width()) {
+            let place = self.accesses.next(
+                process,
+                operation.location,
+                operation.needed,
+                ProcessPlace::FIRST,
+            );
             self.add_behind(reader, process, place)?;
         }
         Ok(())
@@ -46,12 +46,12 @@ impl<'a> Propagation<'a> {
 
     /// The reader reads this source: the source stands before it, and each access that is no read of its value stands before the source or
     /// after the reader.
-    fn follow_source(&mut self, reader: u32, source: u32) -> Result<(), Stop> {
+    fn follow_source(&mut self, reader: OperationId, source: OperationId) -> Result<(), Stop> {
         if !self.stands_before(source, reader) {
             self.add(source, reader, PairReason::BeforeReader(reader))?;
         }
         let operation = self.log.operation(reader);
-        for process in 0..self.rows.width() {
+        for process in ProcessId::first(self.rows.width()) {
             let from = self.rows.after(source, process);
             if from < self.rows.after(reader, process) {
                 let place = self
@@ -64,10 +64,10 @@ impl<'a> Propagation<'a> {
     }
 
     /// Adds that what stands before the reader and is not its source stands before the source.
-    fn follow_back(&mut self, reader: u32, source: u32) -> Result<(), Stop> {
+    fn follow_back(&mut self, reader: OperationId, source: OperationId) -> Result<(), Stop> {
         let operation = self.log.operation(reader);
         let writer = self.log.operation(source);
-        for process in 0..self.rows.width() {
+        for process in ProcessId::first(self.rows.width()) {
             let mut known = self.rows.before(source, process);
             if process == writer.process {
                 known = writer.place;
@@ -89,8 +89,13 @@ impl<'a> Propagation<'a> {
     }
 
     /// Adds that the process's operation at this place stands after the reader, unless it is the reader or there is none.
-    fn add_behind(&mut self, reader: u32, process: u32, place: u32) -> Result<(), Stop> {
-        if place >= self.rows.after(reader, process) || place > self.log.length(process) {
+    fn add_behind(
+        &mut self,
+        reader: OperationId,
+        process: ProcessId,
+        place: ProcessPlace,
+    ) -> Result<(), Stop> {
+        if place >= self.rows.after(reader, process) || place > self.log.last_place(process) {
             return Ok(());
         }
         let other = self.log.number(process, place);
@@ -101,17 +106,17 @@ impl<'a> Propagation<'a> {
     }
 
     /// Finds for each process up to where all stands before each source of the reader, and from where all stands after each of them.
-    fn find_common(&mut self, reader: u32) {
+    fn find_common(&mut self, reader: OperationId) {
         let has_initial = self.sources.has_initial(reader);
-        for process in 0..self.rows.width() {
-            let mut low = FAR;
-            let mut high = 0;
+        for process in ProcessId::first(self.rows.width()) {
+            let mut low = ProcessPlace::FAR;
+            let mut high = ProcessPlace::START;
             if has_initial {
-                low = 0;
-                high = 1;
+                low = ProcessPlace::START;
+                high = ProcessPlace::FIRST;
             }
-            put(self.lows.as_mut_slice(), process, low);
-            put(self.highs.as_mut_slice(), process, high);
+            put(self.lows.as_mut_slice(), process.number(), low);
+            put(self.highs.as_mut_slice(), process.number(), high);
         }
         for run in 0..self.sources.intervals(reader) {
             let low = self.sources.low(reader, run);
@@ -124,22 +129,34 @@ impl<'a> Propagation<'a> {
         }
     }
 
+    /// The place of the process up to which all stands before each source.
+    #[inline(always)]
+    fn common_low(&self, process: ProcessId) -> ProcessPlace {
+        at(self.lows.as_slice(), process.number(), ProcessPlace::START)
+    }
+
+    /// The place of the process from which on all stands after each source.
+    #[inline(always)]
+    fn common_high(&self, process: ProcessId) -> ProcessPlace {
+        at(self.highs.as_slice(), process.number(), ProcessPlace::FAR)
+    }
+
     /// Takes a run of sources, from the first to the last, to what `find_common` finds. All stands before the run that stands before its
     /// first one, and after it what stands after its last one.
     #[inline(always)]
-    fn widen(&mut self, first: u32, last: u32) {
+    fn widen(&mut self, first: OperationId, last: OperationId) {
         let earliest = self.log.operation(first);
-        for process in 0..self.rows.width() {
+        for process in ProcessId::first(self.rows.width()) {
             let mut before = self.rows.before(first, process);
             if process == earliest.process {
                 before = earliest.place;
             }
-            if before < at(self.lows.as_slice(), process, 0) {
-                put(self.lows.as_mut_slice(), process, before);
+            if before < self.common_low(process) {
+                put(self.lows.as_mut_slice(), process.number(), before);
             }
             let after = self.rows.after(last, process);
-            if after > at(self.highs.as_slice(), process, FAR) {
-                put(self.highs.as_mut_slice(), process, after);
+            if after > self.common_high(process) {
+                put(self.highs.as_mut_slice(), process.number(), after);
             }
         }
         self.budget.spend(self.rows.width() as u64);
@@ -147,17 +164,17 @@ impl<'a> Propagation<'a> {
 
     /// Adds that what stands before all sources stands before the reader, and that what stands after all and is no read of its value stands
     /// after it.
-    fn add_common(&mut self, reader: u32) -> Result<(), Stop> {
+    fn add_common(&mut self, reader: OperationId) -> Result<(), Stop> {
         let operation = self.log.operation(reader);
-        for process in 0..self.rows.width() {
-            let low = at(self.lows.as_slice(), process, 0);
-            if low != FAR && low > self.rows.before(reader, process) {
+        for process in ProcessId::first(self.rows.width()) {
+            let low = self.common_low(process);
+            if low != ProcessPlace::FAR && low > self.rows.before(reader, process) {
                 let earlier = self.log.number(process, low);
                 if earlier != reader {
                     self.add(earlier, reader, PairReason::BeforeReader(reader))?;
                 }
             }
-            let high = at(self.highs.as_slice(), process, FAR);
+            let high = self.common_high(process);
             if high < self.rows.after(reader, process) {
                 let place = self
                     .accesses
@@ -170,8 +187,8 @@ impl<'a> Propagation<'a> {
 
     /// Takes from a final value the last writers that something else of the location stands after, and if one is left, adds that all else
     /// stands before it.
-    fn look_at_final(&mut self, reader: u32) -> Result<(), Stop> {
-        let location = reader.wrapping_sub(self.log.count());
+    fn look_at_final(&mut self, reader: OperationId) -> Result<(), Stop> {
+        let location = self.log.final_location(reader);
         self.find_last_accesses(location)?;
         let mut count: u32 = 0;
         let mut only = NOBODY;
@@ -206,15 +223,15 @@ impl<'a> Propagation<'a> {
     }
 
     /// Finds for each process its last access of the location that is no read of the final value.
-    fn find_last_accesses(&mut self, location: u32) -> Result<(), AllocError> {
+    fn find_last_accesses(&mut self, location: LocationId) -> Result<(), AllocError> {
         self.hiders.clear();
         let Some(value) = self.log.last(location) else {
             return Ok(());
         };
-        for process in 0..self.rows.width() {
-            let length = self.log.length(process);
-            let place = self.accesses.previous(process, location, value, length);
-            if place != 0 {
+        for process in ProcessId::first(self.rows.width()) {
+            let last = self.log.last_place(process);
+            let place = self.accesses.previous(process, location, value, last);
+            if place != ProcessPlace::START {
                 let access = self.log.number(process, place);
                 self.hiders.push(access)?;
             }
@@ -223,7 +240,7 @@ impl<'a> Propagation<'a> {
     }
 
     /// One of the last accesses that stands after the writer, or `NOBODY`.
-    fn last_access_after(&self, writer: u32) -> u32 {
+    fn last_access_after(&self, writer: OperationId) -> OperationId {
         for access in self.hiders.as_slice() {
             if *access != writer && self.stands_before(writer, *access) {
                 return *access;
@@ -233,7 +250,7 @@ impl<'a> Propagation<'a> {
     }
 
     /// Adds that each of the last accesses stands before the only last writer.
-    fn put_last(&mut self, reader: u32, writer: u32) -> Result<(), Stop> {
+    fn put_last(&mut self, reader: OperationId, writer: OperationId) -> Result<(), Stop> {
         for number in 0..self.hiders.len() {
             let access = at(
                 self.hiders.as_slice(),

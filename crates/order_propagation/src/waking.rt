@@ -1,7 +1,7 @@
 //! Which readers a changed row may say something new to.
 
 use crate::propagation::Propagation;
-use numbered_log::{NOBODY, Operation};
+use numbered_log::{NOBODY, Operation, OperationId, ProcessId};
 use total_tables::at;
 
 /// The number of readers of a class up to which all are looked at. Among more it is sooner to look for those that are concerned, by halves.
@@ -11,15 +11,15 @@ impl<'a> Propagation<'a> {
     /// Has no other reading operation be looked at than those of which that is wanted, by number. It is called when nothing waits, and holds until
     /// the next round.
     pub fn look_only_at(&mut self, is_wanted: &[bool]) {
-        for number in 0..self.log.count() {
-            if !at(is_wanted, number, true) {
+        for number in self.log.operation_ids() {
+            if !at(is_wanted, number.number(), true) {
                 self.agenda.let_sleep(number);
             }
         }
     }
 
     /// Has those of these operations wait that read, unless they are never looked at: what wakes a reader may be missed.
-    pub fn look_again_at(&mut self, operations: &[u32]) {
+    pub fn look_again_at(&mut self, operations: &[OperationId]) {
         for operation in operations {
             if self.log.operation(*operation).reads {
                 self.agenda.add(*operation);
@@ -29,31 +29,43 @@ impl<'a> Propagation<'a> {
 
     /// More stands before the operation.
     #[inline(always)]
-    pub(crate) fn wake_raised(&mut self, number: u32, operation: Operation, has_news: bool) {
+    pub(crate) fn wake_raised(
+        &mut self,
+        number: OperationId,
+        operation: Operation,
+        has_news: bool,
+    ) {
         if self.is_out_of_reach(operation) {
             return;
         }
         if operation.reads && has_news {
             self.agenda.add(number);
         }
-        if operation.writes && at(self.is_open_source.as_slice(), number, false) {
+        if operation.writes && at(self.is_open_source.as_slice(), number.number(), false) {
             self.wake_readers(number, false);
         }
     }
 
     /// More stands after the operation.
     #[inline(always)]
-    pub(crate) fn wake_lowered(&mut self, number: u32, operation: Operation, has_news: bool) {
+    pub(crate) fn wake_lowered(
+        &mut self,
+        number: OperationId,
+        operation: Operation,
+        has_news: bool,
+    ) {
         if self.is_out_of_reach(operation) {
             return;
         }
         if operation.reads && self.sources.has_several(number) {
             self.agenda.add(number);
         }
-        if operation.writes && (has_news || at(self.is_open_source.as_slice(), number, false)) {
+        if operation.writes
+            && (has_news || at(self.is_open_source.as_slice(), number.number(), false))
+        {
             self.wake_readers(number, has_news);
         }
-        if at(self.is_near_end.as_slice(), number, false) {
+        if at(self.is_near_end.as_slice(), number.number(), false) {
             let reader = self.final_reader(operation.location);
             if self.sources.is_reader(reader) {
                 self.agenda.add(reader);
@@ -63,7 +75,7 @@ impl<'a> Propagation<'a> {
 
     /// Wakes the readers that have the writer at an end of their interval, all of them or those of several sources: what lies within an
     /// interval says nothing.
-    pub(crate) fn wake_readers(&mut self, writer: u32, all: bool) {
+    pub(crate) fn wake_readers(&mut self, writer: OperationId, all: bool) {
         let class = self.classes.class_of(writer);
         let begin = self.readers.begin(class);
         let end = self.readers.end(class);
@@ -84,7 +96,7 @@ impl<'a> Propagation<'a> {
                 break;
             }
             let process = self.log.operation(self.readers.reader(position)).process;
-            let next = self.log.start(process.wrapping_add(1));
+            let next = self.log.start(process.next());
             let behind = self.readers.first_from(position, end, next);
             self.wake_of_process(writer, process, (position, behind), all);
             position = behind;
@@ -93,10 +105,16 @@ impl<'a> Propagation<'a> {
 
     /// Wakes such readers of one process. As rows rise along a process, they are two runs: those of which the writer is the last source,
     /// and those of which it is the first.
-    fn wake_of_process(&mut self, writer: u32, process: u32, positions: (u32, u32), all: bool) {
+    fn wake_of_process(
+        &mut self,
+        writer: OperationId,
+        process: ProcessId,
+        positions: (u32, u32),
+        all: bool,
+    ) {
         let (begin, end) = positions;
         let place = self.rows.before(writer, process);
-        let first = self.log.number(process, place.wrapping_add(1));
+        let first = self.log.number(process, place.next());
         let mut position = self.readers.first_from(begin, end, first);
         let own = self.classes.position_of(writer);
         self.budget.spend(24);
@@ -123,7 +141,7 @@ impl<'a> Propagation<'a> {
     }
 
     /// The first position whose reader has no source before this one in the writer's run.
-    fn first_low(&self, begin: u32, end: u32, writer: u32, own: u32) -> u32 {
+    fn first_low(&self, begin: u32, end: u32, writer: OperationId, own: u32) -> u32 {
         let mut low = begin;
         let mut high = end;
         for _ in 0..32 {
@@ -142,7 +160,7 @@ impl<'a> Propagation<'a> {
 
     /// The ends of the interval in which the writer may stand, of the reader at this position.
     #[inline(always)]
-    fn ends_at(&self, position: u32, writer: u32) -> (u32, u32) {
+    fn ends_at(&self, position: u32, writer: OperationId) -> (u32, u32) {
         let reader = self.readers.reader(position);
         let class = self.classes.class_of(writer);
         let run = self
@@ -157,7 +175,7 @@ impl<'a> Propagation<'a> {
 
     /// Wakes the reader at this position if the writer is at an end of its interval.
     #[inline(always)]
-    pub(crate) fn wake_at(&mut self, position: u32, writer: u32, all: bool) {
+    pub(crate) fn wake_at(&mut self, position: u32, writer: OperationId, all: bool) {
         let reader = self.readers.reader(position);
         if reader == NOBODY || !(all || self.sources.has_several(reader)) {
             return;

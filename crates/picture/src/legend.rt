@@ -4,6 +4,7 @@ use crate::arrows::{ArrowStyle, EXCLUDED, begin_path, is_shown, skips_between};
 use crate::placement::MARGIN;
 use crate::svg_text::SvgText;
 use drawn_order::{ArrowKind, FoundOrder, PictureItem};
+use trace_semantics::known_order::says_times;
 use trace_semantics::trace::Trace;
 
 /// The height of a line of the legend.
@@ -82,7 +83,7 @@ impl LegendEntries {
     ) -> LegendEntries {
         let mut entries = LegendEntries::none(is_schedule);
         entries.has_lines = !trace.before().is_empty();
-        entries.has_times = has_times(trace);
+        entries.has_times = says_times(trace);
         entries.note_arrows(items, found);
         for item in items {
             entries.beside = entries.beside || item.is_beside();
@@ -114,18 +115,6 @@ impl LegendEntries {
         }
         count
     }
-}
-
-/// Returns whether an operation of the trace has times.
-fn has_times(trace: &Trace) -> bool {
-    for process in trace.processes() {
-        for op in process.operations.as_slice() {
-            if op.span().is_some() {
-                return true;
-            }
-        }
-    }
-    false
 }
 
 /// The lines of a legend as they are drawn.

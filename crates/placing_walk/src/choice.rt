@@ -2,7 +2,7 @@
 
 use crate::placing_walk::{Deciding, PlacingWalk};
 use crate::waiting::Awaited;
-use numbered_log::Operation;
+use numbered_log::{LocationId, Operation, OperationId, ProcessId};
 use order_propagation::Propagation;
 use total_tables::at;
 
@@ -41,12 +41,12 @@ fn cost_of_place(estimate: u32, count: u32) -> i64 {
 
 impl PlacingWalk {
     /// The next operation: a plain read that can come, since it changes nothing for others, or else a writer.
-    pub(crate) fn next_operation(&self, order: &mut Propagation<'_>) -> Option<u32> {
+    pub(crate) fn next_operation(&self, order: &mut Propagation<'_>) -> Option<OperationId> {
         let log = order.log();
         let mut best = None;
         let mut most = i64::MIN;
-        for process in 0..log.processes() {
-            if at(self.awaited.as_slice(), process, Awaited::Never) == Awaited::Nothing {
+        for process in log.process_ids() {
+            if at(self.awaited.as_slice(), process.number(), Awaited::Never) == Awaited::Nothing {
                 let number = log.number(process, self.memory.front(process));
                 if !log.operation(number).writes {
                     return Some(number);
@@ -63,8 +63,8 @@ impl PlacingWalk {
 
     /// The worth of the writer as the next operation; the highest is placed. If the walk decides only when it is stuck, the one with the lowest
     /// estimated place is.
-    fn worth(&self, order: &mut Propagation<'_>, number: u32) -> i64 {
-        let estimate = at(self.estimates.as_slice(), number, 0);
+    fn worth(&self, order: &mut Propagation<'_>, number: OperationId) -> i64 {
+        let estimate = at(self.estimates.as_slice(), number.number(), 0);
         let log = order.log();
         let operation = log.operation(number);
         let loss = self.cost_of_loss(operation);
@@ -74,7 +74,7 @@ impl PlacingWalk {
         let held = self.held_value(order, operation.location);
         let mut worth: i64 = 0i64.wrapping_sub(loss);
         let mut is_open = false;
-        for process in 0..log.processes() {
+        for process in log.process_ids() {
             if process != operation.process {
                 let Some(other) = self.in_sight(order, process, operation.location) else {
                     continue;
@@ -120,9 +120,9 @@ impl PlacingWalk {
     }
 
     /// The value that the location holds.
-    fn held_value(&self, order: &Propagation<'_>, location: u32) -> Option<u64> {
+    fn held_value(&self, order: &Propagation<'_>, location: LocationId) -> Option<u64> {
         let held = self.memory.held(location);
-        if held < order.log().count() {
+        if order.log().has_operation(held) {
             Some(order.log().operation(held).left)
         } else {
             order.log().initial(location)
@@ -131,11 +131,16 @@ impl PlacingWalk {
 
     /// The process's next operation on the location, if it is in sight.
     #[inline(always)]
-    fn in_sight(&self, order: &Propagation<'_>, process: u32, location: u32) -> Option<u32> {
+    fn in_sight(
+        &self,
+        order: &Propagation<'_>,
+        process: ProcessId,
+        location: LocationId,
+    ) -> Option<OperationId> {
         let log = order.log();
         let front = self.memory.front(process);
-        let end = log.length(process).wrapping_add(1);
-        for place in front..end.min(front.saturating_add(SIGHT)) {
+        let end = log.end(process).earlier(front.ahead(SIGHT));
+        for place in front.up_to(end) {
             let number = log.number(process, place);
             if log.operation(number).location == location {
                 return Some(number);
@@ -149,11 +154,11 @@ impl PlacingWalk {
         &self,
         order: &mut Propagation<'_>,
         operation: Operation,
-        process: u32,
-    ) -> Option<u32> {
+        process: ProcessId,
+    ) -> Option<OperationId> {
         let log = order.log();
         let front = self.memory.front(process);
-        for place in front..log.length(process).wrapping_add(1) {
+        for place in front.up_to(log.end(process)) {
             let number = log.number(process, place);
             let other = log.operation(number);
             order.spend(1);

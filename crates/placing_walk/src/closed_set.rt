@@ -1,7 +1,7 @@
 //! Processes of which none can go on before another of them does: a conflict.
 
 use crate::placing_walk::PlacingWalk;
-use numbered_log::NOBODY;
+use numbered_log::{NO_NUMBER, NOBODY, OperationId, ProcessId};
 use order_propagation::Propagation;
 use std::alloc::{AllocError, Global};
 use total_tables::{at, put};
@@ -15,9 +15,9 @@ impl PlacingWalk {
         order: &mut Propagation<'_>,
     ) -> Result<bool, AllocError> {
         let processes = order.log().processes();
-        let mut smallest = NOBODY;
-        let mut best = NOBODY;
-        for process in 0..processes {
+        let mut smallest = NO_NUMBER;
+        let mut best = ProcessId::NONE;
+        for process in ProcessId::first(processes) {
             if self.head(order, process) != NOBODY {
                 let count = self.close(alloc, order, process)?;
                 if count != 0 && count < smallest {
@@ -26,13 +26,13 @@ impl PlacingWalk {
                 }
             }
         }
-        if best == NOBODY {
+        if best == ProcessId::NONE {
             return Ok(false);
         }
         self.close(alloc, order, best)?;
         self.learning.analysis.begin();
-        for process in 0..processes {
-            if at(self.is_in_set.as_slice(), process, false) {
+        for process in ProcessId::first(processes) {
+            if at(self.is_in_set.as_slice(), process.number(), false) {
                 self.ask_head(order, process)?;
             }
         }
@@ -40,26 +40,26 @@ impl PlacingWalk {
     }
 
     /// The next operation of the process, or `NOBODY`.
-    fn head(&self, order: &Propagation<'_>, process: u32) -> u32 {
+    fn head(&self, order: &Propagation<'_>, process: ProcessId) -> OperationId {
         let front = self.memory.front(process);
-        if front <= order.log().length(process) {
+        if front <= order.log().last_place(process) {
             order.log().number(process, front)
         } else {
             NOBODY
         }
     }
 
-    /// A process whose next operation stands before this one, one of the set if there is one, or `NOBODY`.
-    fn blocking(&self, order: &Propagation<'_>, number: u32) -> u32 {
-        let mut found = NOBODY;
+    /// A process whose next operation stands before this one, one of the set if there is one, or none.
+    fn blocking(&self, order: &Propagation<'_>, number: OperationId) -> ProcessId {
+        let mut found = ProcessId::NONE;
         let own = order.log().operation(number).process;
-        for process in 0..order.log().processes() {
+        for process in order.log().process_ids() {
             let is_before = order.rows().before(number, process) >= self.memory.front(process);
             if is_before && process != own {
-                if at(self.is_in_set.as_slice(), process, false) {
+                if at(self.is_in_set.as_slice(), process.number(), false) {
                     return process;
                 }
-                if found == NOBODY {
+                if found == ProcessId::NONE {
                     found = process;
                 }
             }
@@ -72,14 +72,14 @@ impl PlacingWalk {
         &mut self,
         alloc: Global,
         order: &mut Propagation<'_>,
-        process: u32,
+        process: ProcessId,
     ) -> Result<u32, AllocError> {
         let processes = order.log().processes();
-        for other in 0..processes {
-            put(self.is_in_set.as_mut_slice(), other, false);
+        for other in order.log().process_ids() {
+            put(self.is_in_set.as_mut_slice(), other.number(), false);
         }
         let mut due = Vec::new(alloc);
-        put(self.is_in_set.as_mut_slice(), process, true);
+        put(self.is_in_set.as_mut_slice(), process.number(), true);
         due.push(process)?;
         let mut count: u32 = 0;
         for _ in 0..processes {
@@ -99,12 +99,12 @@ impl PlacingWalk {
     fn join_needed(
         &mut self,
         order: &Propagation<'_>,
-        process: u32,
-        due: &mut Vec<u32>,
+        process: ProcessId,
+        due: &mut Vec<ProcessId>,
     ) -> Result<bool, AllocError> {
         let number = self.head(order, process);
         let blocking = self.blocking(order, number);
-        if blocking != NOBODY {
+        if blocking != ProcessId::NONE {
             self.join(blocking, due)?;
             return Ok(true);
         }
@@ -128,19 +128,19 @@ impl PlacingWalk {
         Ok(true)
     }
 
-    fn join(&mut self, process: u32, due: &mut Vec<u32>) -> Result<(), AllocError> {
-        if !at(self.is_in_set.as_slice(), process, true) {
-            put(self.is_in_set.as_mut_slice(), process, true);
+    fn join(&mut self, process: ProcessId, due: &mut Vec<ProcessId>) -> Result<(), AllocError> {
+        if !at(self.is_in_set.as_slice(), process.number(), true) {
+            put(self.is_in_set.as_mut_slice(), process.number(), true);
             due.push(process)?;
         }
         Ok(())
     }
 
     /// Asks why the next operation of the process cannot come before others of the set.
-    fn ask_head(&mut self, order: &Propagation<'_>, process: u32) -> Result<(), AllocError> {
+    fn ask_head(&mut self, order: &Propagation<'_>, process: ProcessId) -> Result<(), AllocError> {
         let number = self.head(order, process);
         let blocking = self.blocking(order, number);
-        if blocking == NOBODY {
+        if blocking == ProcessId::NONE {
             return self
                 .learning
                 .analysis

@@ -4,7 +4,7 @@ use crate::placing_walk::{Deciding, PlacingWalk, WalkEnding};
 use crate::waiting::Awaited;
 use closed_rows::PairReason;
 use conflict_analysis::Backjump;
-use numbered_log::NOBODY;
+use numbered_log::{NO_NUMBER, OperationId};
 use order_propagation::{Propagated, Propagation, Stop};
 use std::alloc::{AllocError, Global};
 use total_tables::{at, size};
@@ -20,11 +20,11 @@ impl PlacingWalk {
     pub(crate) fn decide_and_place(
         &mut self,
         order: &mut Propagation<'_>,
-        number: u32,
+        number: OperationId,
     ) -> Result<Option<WalkEnding>, AllocError> {
         let operation = order.log().operation(number);
         let before = order.pairs().count();
-        for process in 0..order.log().processes() {
+        for process in order.log().process_ids() {
             if process != operation.process {
                 if let Some(rival) = self.next_rival(order, operation, process) {
                     if !order.stands_before(number, rival) {
@@ -45,7 +45,7 @@ impl PlacingWalk {
             }
         }
         if order.pairs().count() != before {
-            self.heed(order, NOBODY);
+            self.heed(order, NO_NUMBER);
             let is_next = operation.place == self.memory.front(operation.process);
             if !is_next || self.awaited_by(order, operation.process) != Awaited::Nothing {
                 return Ok(None);
@@ -59,10 +59,10 @@ impl PlacingWalk {
     pub(crate) fn decide(
         &mut self,
         order: &mut Propagation<'_>,
-        first: u32,
-        second: u32,
+        first: OperationId,
+        second: OperationId,
     ) -> Result<Option<WalkEnding>, AllocError> {
-        if first >= order.log().count() || second >= order.log().count() {
+        if !order.log().has_operation(first) || !order.log().has_operation(second) {
             return Ok(Some(WalkEnding::GivenUp));
         }
         match self.push_decision(order, first, second) {
@@ -71,7 +71,7 @@ impl PlacingWalk {
             Err(Stop::OutOfMemory) => return Err(AllocError),
         }
         match self.learning.clauses.propagate(order)? {
-            Propagated::Done => self.heed(order, NOBODY),
+            Propagated::Done => self.heed(order, NO_NUMBER),
             Propagated::Spent => return Ok(Some(WalkEnding::GivenUp)),
             Propagated::Conflict => return self.resolve(order),
         }
@@ -81,8 +81,8 @@ impl PlacingWalk {
     fn push_decision(
         &mut self,
         order: &mut Propagation<'_>,
-        first: u32,
-        second: u32,
+        first: OperationId,
+        second: OperationId,
     ) -> Result<(), Stop> {
         self.note_decision()?;
         order.decide(first, second)
@@ -110,7 +110,7 @@ impl PlacingWalk {
         &mut self,
         order: &mut Propagation<'_>,
     ) -> Result<Option<WalkEnding>, AllocError> {
-        let mut target = NOBODY;
+        let mut target = NO_NUMBER;
         for _ in 0..order.budget().left() {
             let learned = self
                 .learning
@@ -185,7 +185,7 @@ impl PlacingWalk {
             let pair = order.pairs().pair(number);
             let second = self.memory.position(pair.second);
             let first = self.memory.position(pair.first);
-            if second != NOBODY && (first == NOBODY || first > second) && second < left {
+            if second != NO_NUMBER && (first == NO_NUMBER || first > second) && second < left {
                 left = second;
             }
         }
@@ -201,7 +201,7 @@ impl PlacingWalk {
     fn take_back(&mut self, order: &mut Propagation<'_>, left: u32) {
         let log = order.log();
         self.memory.take_back(log, left);
-        for process in 0..log.processes() {
+        for process in log.process_ids() {
             order.set_front(process, self.memory.front(process));
         }
     }
@@ -221,7 +221,7 @@ impl PlacingWalk {
         if order.pairs().count() == before {
             return Ok(None);
         }
-        self.heed(order, NOBODY);
+        self.heed(order, NO_NUMBER);
         Ok(Some(None))
     }
 

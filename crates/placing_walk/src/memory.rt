@@ -1,33 +1,33 @@
 //! What is placed, and what memory holds by it.
 
 use crate::spare_values::SpareValues;
-use numbered_log::{NOBODY, NumberedLog, Operation};
+use numbered_log::{
+    LocationId, NO_NUMBER, NOBODY, NumberedLog, Operation, OperationId, ProcessId, ProcessPlace,
+    UNKNOWN_SOURCE,
+};
 use order_propagation::Propagation;
 use std::alloc::{AllocError, Global};
 use total_tables::{at, put, size};
 
-/// A source that is not known yet, as there are several.
-pub(crate) const UNKNOWN_SOURCE: u32 = NOBODY - 1;
-
 /// The operations that are placed, in order, and what each location holds after them.
 pub(crate) struct PlacedMemory {
-    pub(crate) placed: Vec<u32>,
-    /// For each operation the number of those placed before it, or `NOBODY`.
+    pub(crate) placed: Vec<OperationId>,
+    /// For each operation the number of those placed before it, or `NO_NUMBER`.
     positions: Vec<u32>,
     /// For each process the place of its next operation.
-    fronts: Vec<u32>,
+    fronts: Vec<ProcessPlace>,
     /// For each location the operation that has written it last, or `NOBODY`.
-    held: Vec<u32>,
+    held: Vec<OperationId>,
     /// For each placed operation that writes the one that its location held before, so that it is taken back without a search.
-    held_before: Vec<u32>,
+    held_before: Vec<OperationId>,
     /// For each reading operation its source, if it has one only.
-    sources: Vec<u32>,
+    sources: Vec<OperationId>,
     /// For each operation the readers that are not placed and have it as their only source.
     unread: Vec<u32>,
     /// The same for the initial value of each location.
     unread_initial: Vec<u32>,
     /// The reading operations that had several sources when the walk began: only what these read can change.
-    open: Vec<u32>,
+    open: Vec<OperationId>,
     spare: SpareValues,
 }
 
@@ -50,7 +50,7 @@ impl Drop for PlacedMemory {
 }
 
 /// The source of the reader, as it is noted.
-fn source_noted(order: &Propagation<'_>, reader: u32) -> u32 {
+fn source_noted(order: &Propagation<'_>, reader: OperationId) -> OperationId {
     match order.only_source(reader) {
         Some(source) => source,
         None => UNKNOWN_SOURCE,
@@ -64,8 +64,8 @@ impl PlacedMemory {
         let count = log.count() as usize;
         let mut memory = PlacedMemory {
             placed: Vec::with_capacity(alloc, count)?,
-            positions: vec![in alloc; NOBODY; count]?,
-            fronts: vec![in alloc; 1; log.processes() as usize]?,
+            positions: vec![in alloc; NO_NUMBER; count]?,
+            fronts: vec![in alloc; ProcessPlace::FIRST; log.processes() as usize]?,
             held: vec![in alloc; NOBODY; log.locations() as usize]?,
             held_before: vec![in alloc; NOBODY; count]?,
             sources: vec![in alloc; UNKNOWN_SOURCE; count]?,
@@ -74,7 +74,7 @@ impl PlacedMemory {
             open: Vec::new(alloc),
             spare: SpareValues::new(alloc, order)?,
         };
-        for number in 0..log.count() {
+        for number in log.operation_ids() {
             if order.sources().is_reader(number) {
                 let source = source_noted(order, number);
                 memory.set_source(log, number, source);
@@ -87,23 +87,27 @@ impl PlacedMemory {
     }
 
     /// Notes the source of a reader that is not placed.
-    fn set_source(&mut self, log: &NumberedLog, reader: u32, source: u32) {
-        put(self.sources.as_mut_slice(), reader, source);
+    fn set_source(&mut self, log: &NumberedLog, reader: OperationId, source: OperationId) {
+        put(self.sources.as_mut_slice(), reader.number(), source);
         let location = log.operation(reader).location;
         self.change_unread(source, location, 1);
     }
 
     /// Adds to the number of readers that the source waits for. A difference below 0 is added as its complement.
-    fn change_unread(&mut self, source: u32, location: u32, difference: u32) {
+    fn change_unread(&mut self, source: OperationId, location: LocationId, difference: u32) {
         if source == NOBODY {
-            let count = at(self.unread_initial.as_slice(), location, 0);
+            let count = at(self.unread_initial.as_slice(), location.number(), 0);
             let changed = count.wrapping_add(difference);
-            put(self.unread_initial.as_mut_slice(), location, changed);
+            put(
+                self.unread_initial.as_mut_slice(),
+                location.number(),
+                changed,
+            );
         } else if source != UNKNOWN_SOURCE {
-            let count = at(self.unread.as_slice(), source, 0);
+            let count = at(self.unread.as_slice(), source.number(), 0);
             put(
                 self.unread.as_mut_slice(),
-                source,
+                source.number(),
                 count.wrapping_add(difference),
             );
         }
@@ -117,7 +121,7 @@ impl PlacedMemory {
             let source = source_noted(order, reader);
             let old = self.source(reader);
             if source != old {
-                put(self.sources.as_mut_slice(), reader, source);
+                put(self.sources.as_mut_slice(), reader.number(), source);
                 if !self.is_placed(reader) {
                     let location = log.operation(reader).location;
                     self.change_unread(old, location, u32::MAX);
@@ -129,8 +133,8 @@ impl PlacedMemory {
 
     /// The source of the reader, or `UNKNOWN_SOURCE`.
     #[inline(always)]
-    pub(crate) fn source(&self, reader: u32) -> u32 {
-        at(self.sources.as_slice(), reader, UNKNOWN_SOURCE)
+    pub(crate) fn source(&self, reader: OperationId) -> OperationId {
+        at(self.sources.as_slice(), reader.number(), UNKNOWN_SOURCE)
     }
 
     /// The number of operations that are placed.
@@ -139,58 +143,66 @@ impl PlacedMemory {
         size(self.placed.as_slice())
     }
 
-    /// The number of operations placed before this one, or `NOBODY` if it is not placed.
+    /// The number of operations placed before this one, or `NO_NUMBER` if it is not placed.
     #[inline(always)]
-    pub(crate) fn position(&self, number: u32) -> u32 {
-        at(self.positions.as_slice(), number, NOBODY)
+    pub(crate) fn position(&self, number: OperationId) -> u32 {
+        at(self.positions.as_slice(), number.number(), NO_NUMBER)
     }
 
     #[inline(always)]
-    pub(crate) fn is_placed(&self, number: u32) -> bool {
-        self.position(number) != NOBODY
+    pub(crate) fn is_placed(&self, number: OperationId) -> bool {
+        self.position(number) != NO_NUMBER
     }
 
     /// The place of the process's next operation.
     #[inline(always)]
-    pub(crate) fn front(&self, process: u32) -> u32 {
-        at(self.fronts.as_slice(), process, NOBODY)
+    pub(crate) fn front(&self, process: ProcessId) -> ProcessPlace {
+        at(self.fronts.as_slice(), process.number(), ProcessPlace::FAR)
     }
 
     /// The operation that has written the location last, or `NOBODY`.
     #[inline(always)]
-    pub(crate) fn held(&self, location: u32) -> u32 {
-        at(self.held.as_slice(), location, NOBODY)
+    pub(crate) fn held(&self, location: LocationId) -> OperationId {
+        at(self.held.as_slice(), location.number(), NOBODY)
     }
 
     /// The operation that its location held before this one was placed.
     #[inline(always)]
-    pub(crate) fn held_before(&self, writer: u32) -> u32 {
-        at(self.held_before.as_slice(), writer, NOBODY)
+    pub(crate) fn held_before(&self, writer: OperationId) -> OperationId {
+        at(self.held_before.as_slice(), writer.number(), NOBODY)
     }
 
     /// Number of plain writes that may still come over the value that the location holds.
-    pub(crate) fn spare(&self, location: u32) -> u32 {
+    pub(crate) fn spare(&self, location: LocationId) -> u32 {
         self.spare.of_held(location, self.held(location))
     }
 
     /// The number of readers that wait for what the location holds.
     #[inline(always)]
-    pub(crate) fn unread(&self, location: u32) -> u32 {
+    pub(crate) fn unread(&self, location: LocationId) -> u32 {
         let writer = self.held(location);
         if writer == NOBODY {
-            at(self.unread_initial.as_slice(), location, 0)
+            at(self.unread_initial.as_slice(), location.number(), 0)
         } else {
-            at(self.unread.as_slice(), writer, 0)
+            at(self.unread.as_slice(), writer.number(), 0)
         }
     }
 
     /// Places the operation. Returns whether what its location holds is another write now, or was read by the last that waited for it.
-    pub(crate) fn place(&mut self, number: u32, operation: Operation) -> Result<bool, AllocError> {
+    pub(crate) fn place(
+        &mut self,
+        number: OperationId,
+        operation: Operation,
+    ) -> Result<bool, AllocError> {
         let position = self.count();
         self.placed.push(number)?;
-        put(self.positions.as_mut_slice(), number, position);
-        let front = operation.place.wrapping_add(1);
-        put(self.fronts.as_mut_slice(), operation.process, front);
+        put(self.positions.as_mut_slice(), number.number(), position);
+        let front = operation.place.next();
+        put(
+            self.fronts.as_mut_slice(),
+            operation.process.number(),
+            front,
+        );
         let mut is_free = false;
         if operation.reads {
             let source = self.source(number);
@@ -199,8 +211,12 @@ impl PlacedMemory {
         }
         if operation.writes {
             let held = self.held(operation.location);
-            put(self.held_before.as_mut_slice(), number, held);
-            put(self.held.as_mut_slice(), operation.location, number);
+            put(self.held_before.as_mut_slice(), number.number(), held);
+            put(
+                self.held.as_mut_slice(),
+                operation.location.number(),
+                number,
+            );
             if !operation.reads {
                 self.spare.lose(operation.location, held);
             }
@@ -216,15 +232,19 @@ impl PlacedMemory {
                 break;
             };
             let operation = log.operation(number);
-            put(self.positions.as_mut_slice(), number, NOBODY);
+            put(self.positions.as_mut_slice(), number.number(), NO_NUMBER);
             put(
                 self.fronts.as_mut_slice(),
-                operation.process,
+                operation.process.number(),
                 operation.place,
             );
             if operation.writes {
                 let before = self.held_before(number);
-                put(self.held.as_mut_slice(), operation.location, before);
+                put(
+                    self.held.as_mut_slice(),
+                    operation.location.number(),
+                    before,
+                );
                 if !operation.reads {
                     self.spare.give_back(operation.location, before);
                 }

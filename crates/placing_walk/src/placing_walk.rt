@@ -1,9 +1,9 @@
 //! The walk.
 
-use crate::memory::{PlacedMemory, UNKNOWN_SOURCE};
+use crate::memory::PlacedMemory;
 use crate::waiting::Awaited;
 use conflict_analysis::Learning;
-use numbered_log::{NOBODY, NumberedLog, Operation};
+use numbered_log::{NOBODY, NumberedLog, Operation, OperationId, ProcessId, UNKNOWN_SOURCE};
 use order_propagation::Propagation;
 use std::alloc::{AllocError, Global};
 use total_tables::{at, put};
@@ -105,7 +105,7 @@ impl PlacingWalk {
         })
     }
 
-    pub fn placed(&self) -> &[u32] {
+    pub fn placed(&self) -> &[OperationId] {
         self.memory.placed.as_slice()
     }
 
@@ -123,7 +123,7 @@ impl PlacingWalk {
         &mut self,
         alloc: Global,
         order: &mut Propagation<'_>,
-    ) -> Result<Option<Vec<u32>>, AllocError> {
+    ) -> Result<Option<Vec<OperationId>>, AllocError> {
         let core = self
             .learning
             .analysis
@@ -201,26 +201,26 @@ impl PlacingWalk {
 
     /// Sees anew what the processes wait for of which that may have changed.
     fn look_at_changed(&mut self, order: &mut Propagation<'_>) {
-        for process in 0..order.log().processes() {
-            if at(self.is_changed.as_slice(), process, true) {
+        for process in order.log().process_ids() {
+            if at(self.is_changed.as_slice(), process.number(), true) {
                 let awaited = self.awaited_by(order, process);
-                put(self.awaited.as_mut_slice(), process, awaited);
-                put(self.is_changed.as_mut_slice(), process, false);
+                put(self.awaited.as_mut_slice(), process.number(), awaited);
+                put(self.is_changed.as_mut_slice(), process.number(), false);
                 order.spend(order.log().processes() as u64);
             }
         }
     }
 
     /// Returns what the process's next operation waits for.
-    pub(crate) fn awaited_by(&self, order: &Propagation<'_>, process: u32) -> Awaited {
+    pub(crate) fn awaited_by(&self, order: &Propagation<'_>, process: ProcessId) -> Awaited {
         let log = order.log();
         let front = self.memory.front(process);
-        if front > log.length(process) {
+        if front > log.last_place(process) {
             return Awaited::Never;
         }
         let number = log.number(process, front);
         let operation = log.operation(number);
-        for other in 0..log.processes() {
+        for other in log.process_ids() {
             let place = order.rows().before(number, other);
             if place >= self.memory.front(other) && other != process {
                 return Awaited::Process(other, place);
@@ -240,7 +240,7 @@ impl PlacingWalk {
     }
 
     /// Returns whether the reading operation may read what its location holds.
-    fn fits(&self, order: &Propagation<'_>, number: u32, operation: Operation) -> bool {
+    fn fits(&self, order: &Propagation<'_>, number: OperationId, operation: Operation) -> bool {
         let held = self.memory.held(operation.location);
         let source = self.memory.source(number);
         if source == UNKNOWN_SOURCE {
@@ -254,15 +254,15 @@ impl PlacingWalk {
     pub(crate) fn place(
         &mut self,
         order: &mut Propagation<'_>,
-        number: u32,
+        number: OperationId,
     ) -> Result<(), AllocError> {
         let log = order.log();
         let operation = log.operation(number);
         let is_free = self.memory.place(number, operation)?;
-        order.move_front(operation.process, operation.place.wrapping_add(1))?;
+        order.move_front(operation.process, operation.place.next())?;
         self.most_placed = self.most_placed.max(self.memory.count());
-        for process in 0..log.processes() {
-            let is_changed = match at(self.awaited.as_slice(), process, Awaited::Never) {
+        for process in log.process_ids() {
+            let is_changed = match at(self.awaited.as_slice(), process.number(), Awaited::Never) {
                 Awaited::Never => false,
                 Awaited::Process(other, place) => {
                     other == operation.process && place <= operation.place
@@ -272,7 +272,7 @@ impl PlacingWalk {
                 Awaited::Nothing => is_free && self.is_near(log, process, operation),
             };
             if is_changed || process == operation.process {
-                put(self.is_changed.as_mut_slice(), process, true);
+                put(self.is_changed.as_mut_slice(), process.number(), true);
             }
         }
         order.spend(log.processes() as u64);
@@ -280,16 +280,16 @@ impl PlacingWalk {
     }
 
     /// Returns whether the process's next operation is on the location of this one.
-    fn is_near(&self, log: &NumberedLog, process: u32, operation: Operation) -> bool {
+    fn is_near(&self, log: &NumberedLog, process: ProcessId, operation: Operation) -> bool {
         let number = log.number(process, self.memory.front(process));
         log.operation(number).location == operation.location
     }
 
     /// Two operations of which the first must be decided to come before the second since the location of the first has a wrong final value:
     /// what it holds, and a possible last writer.
-    fn wrong_final_value(&self, order: &Propagation<'_>) -> Option<(u32, u32)> {
+    fn wrong_final_value(&self, order: &Propagation<'_>) -> Option<(OperationId, OperationId)> {
         let log = order.log();
-        for location in 0..log.locations() {
+        for location in log.location_ids() {
             let held = self.memory.held(location);
             if let Some(value) = log.last(location) {
                 let mut left = log.initial(location);
@@ -307,8 +307,8 @@ impl PlacingWalk {
 
     /// Has what each process waits for be seen anew.
     pub(crate) fn change_all(&mut self, processes: u32) {
-        for process in 0..processes {
-            put(self.is_changed.as_mut_slice(), process, true);
+        for process in ProcessId::first(processes) {
+            put(self.is_changed.as_mut_slice(), process.number(), true);
         }
     }
 }

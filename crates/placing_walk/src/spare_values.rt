@@ -1,7 +1,8 @@
 //! How many plain writes may still write over each value.
 
-use numbered_log::{NOBODY, NumberedLog};
+use numbered_log::{LocationId, NOBODY, NumberedLog, OperationId};
 use order_propagation::Propagation;
+use possible_sources::ClassId;
 use std::alloc::{AllocError, Global};
 use total_tables::{at, put};
 
@@ -10,10 +11,10 @@ use total_tables::{at, put};
 pub(crate) struct SpareValues {
     /// For each class the number; of less than none its complement.
     counts: Vec<u32>,
-    /// For each operation the class of what it leaves, or `NOBODY`.
-    classes: Vec<u32>,
+    /// For each operation the class of what it leaves, or none.
+    classes: Vec<ClassId>,
     /// The same of the initial value of each location.
-    initial_classes: Vec<u32>,
+    initial_classes: Vec<ClassId>,
 }
 
 /// Drops each table, in one call for each exit of a function that owns them.
@@ -36,7 +37,7 @@ const PLENTY: u32 = LESS_THAN_NONE - 1;
 /// Returns whether more than an eighth of the operations are updates.
 pub fn has_many_updates(log: &NumberedLog) -> bool {
     let mut updates: u32 = 0;
-    for number in 0..log.count() {
+    for number in log.operation_ids() {
         let operation = log.operation(number);
         if operation.reads && operation.writes {
             updates = updates.wrapping_add(1);
@@ -51,26 +52,26 @@ impl SpareValues {
         let log = order.log();
         let mut spare = SpareValues {
             counts: vec![in alloc; 0; order.classes().count() as usize]?,
-            classes: vec![in alloc; NOBODY; log.count() as usize]?,
-            initial_classes: vec![in alloc; NOBODY; log.locations() as usize]?,
+            classes: vec![in alloc; ClassId::NONE; log.count() as usize]?,
+            initial_classes: vec![in alloc; ClassId::NONE; log.locations() as usize]?,
         };
         if !has_many_updates(log) {
             return Ok(spare);
         }
-        for number in 0..log.count() {
+        for number in log.operation_ids() {
             spare.count_operation(order, number);
         }
-        for location in 0..log.locations() {
+        for location in log.location_ids() {
             spare.count_ends(order, log, location);
         }
         Ok(spare)
     }
 
-    fn count_operation(&mut self, order: &Propagation<'_>, number: u32) {
+    fn count_operation(&mut self, order: &Propagation<'_>, number: OperationId) {
         let operation = order.log().operation(number);
         if operation.writes {
             let class = order.classes().class_of(number);
-            put(self.classes.as_mut_slice(), number, class);
+            put(self.classes.as_mut_slice(), number.number(), class);
             self.change(class, 1);
             if operation.reads {
                 let needed = order.classes().class(operation.location, operation.needed);
@@ -80,10 +81,14 @@ impl SpareValues {
     }
 
     /// Counts the initial and the final value of the location.
-    fn count_ends(&mut self, order: &Propagation<'_>, log: &NumberedLog, location: u32) {
+    fn count_ends(&mut self, order: &Propagation<'_>, log: &NumberedLog, location: LocationId) {
         if let Some(value) = log.initial(location) {
             let class = order.classes().class(location, value);
-            put(self.initial_classes.as_mut_slice(), location, class);
+            put(
+                self.initial_classes.as_mut_slice(),
+                location.number(),
+                class,
+            );
             self.change(class, 1);
         }
         if let Some(value) = log.last(location) {
@@ -93,41 +98,45 @@ impl SpareValues {
     }
 
     /// Adds to the number of the class. A difference below 0 is added as its complement.
-    fn change(&mut self, class: u32, difference: u32) {
-        let count = at(self.counts.as_slice(), class, 0);
+    fn change(&mut self, class: ClassId, difference: u32) {
+        let count = at(self.counts.as_slice(), class.number(), 0);
         put(
             self.counts.as_mut_slice(),
-            class,
+            class.number(),
             count.wrapping_add(difference),
         );
     }
 
     /// The class of what the location holds, if this operation has written it, or none.
     #[inline(always)]
-    fn class_held(&self, location: u32, held: u32) -> u32 {
+    fn class_held(&self, location: LocationId, held: OperationId) -> ClassId {
         if held == NOBODY {
-            at(self.initial_classes.as_slice(), location, NOBODY)
+            at(
+                self.initial_classes.as_slice(),
+                location.number(),
+                ClassId::NONE,
+            )
         } else {
-            at(self.classes.as_slice(), held, NOBODY)
+            at(self.classes.as_slice(), held.number(), ClassId::NONE)
         }
     }
 
     /// Notes that a plain write comes over what the location holds.
-    pub(crate) fn lose(&mut self, location: u32, held: u32) {
+    pub(crate) fn lose(&mut self, location: LocationId, held: OperationId) {
         let class = self.class_held(location, held);
         self.change(class, u32::MAX);
     }
 
     /// Notes that such a write is taken back.
-    pub(crate) fn give_back(&mut self, location: u32, held: u32) {
+    pub(crate) fn give_back(&mut self, location: LocationId, held: OperationId) {
         let class = self.class_held(location, held);
         self.change(class, 1);
     }
 
     /// Number of plain writes that may still come over the value that the location holds.
-    pub(crate) fn of_held(&self, location: u32, held: u32) -> u32 {
+    pub(crate) fn of_held(&self, location: LocationId, held: OperationId) -> u32 {
         let class = self.class_held(location, held);
-        let count = at(self.counts.as_slice(), class, PLENTY);
+        let count = at(self.counts.as_slice(), class.number(), PLENTY);
         if count >= LESS_THAN_NONE { 0 } else { count }
     }
 }

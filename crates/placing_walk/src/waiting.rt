@@ -1,5 +1,7 @@
 //! What a process waits for.
 
+use numbered_log::{LocationId, ProcessId, ProcessPlace};
+
 /// What the next operation of a process waits for.
 #[derive(Clone, Copy, PartialEq, Eq)]
 pub(crate) enum Awaited {
@@ -8,9 +10,9 @@ pub(crate) enum Awaited {
     /// The process is at its end.
     Never,
     /// The process of this number, up to this place.
-    Process(u32, u32),
+    Process(ProcessId, ProcessPlace),
     /// Another value of the location.
-    Value(u32),
+    Value(LocationId),
     /// Readers of what the location holds, which have to come before it is written.
-    Readers(u32),
+    Readers(LocationId),
 }

@@ -2,7 +2,7 @@
 
 use crate::placing_walk::PlacingWalk;
 use crate::waiting::Awaited;
-use numbered_log::{NOBODY, NumberedLog};
+use numbered_log::{LocationId, NO_NUMBER, NOBODY, NumberedLog, OperationId, ProcessId};
 use order_propagation::Propagation;
 use std::alloc::{AllocError, Global};
 use total_tables::{at, put, size};
@@ -11,10 +11,10 @@ use total_tables::{at, put, size};
 #[derive(Clone, Copy)]
 struct Link {
     /// Its next operation.
-    waiting: u32,
+    waiting: OperationId,
     awaited: Awaited,
     /// The process that it waits for.
-    next: u32,
+    next: ProcessId,
 }
 
 /// Processes of which each waits for the next, and the last for the first.
@@ -26,8 +26,8 @@ struct WaitingRing {
 /// Two operations whose order would untie a knot, and where the second of them is placed.
 #[derive(Clone, Copy)]
 struct Untying {
-    first: u32,
-    second: u32,
+    first: OperationId,
+    second: OperationId,
     position: u32,
 }
 
@@ -38,7 +38,7 @@ impl PlacingWalk {
         &mut self,
         alloc: Global,
         order: &mut Propagation<'_>,
-    ) -> Result<Option<(u32, u32)>, AllocError> {
+    ) -> Result<Option<(OperationId, OperationId)>, AllocError> {
         let ring = self.find_ring(alloc, order)?;
         let mut best: Option<Untying> = None;
         for link in ring.links.as_slice() {
@@ -63,24 +63,28 @@ impl PlacingWalk {
     ) -> Result<WaitingRing, AllocError> {
         let log = order.log();
         let processes = log.processes();
-        let mut seen = vec![in alloc; NOBODY; processes as usize]?;
+        let mut seen = vec![in alloc; NO_NUMBER; processes as usize]?;
         let mut chain: Vec<Link> = Vec::new(alloc);
         let mut process = self.first_waiting(processes);
         for _ in 0..processes {
-            if at(seen.as_slice(), process, 0) != NOBODY {
+            if at(seen.as_slice(), process.number(), 0) != NO_NUMBER {
                 break;
             }
-            put(seen.as_mut_slice(), process, size(chain.as_slice()));
+            put(
+                seen.as_mut_slice(),
+                process.number(),
+                size(chain.as_slice()),
+            );
             let link = self.link_of(order, process);
             chain.push(link)?;
             process = link.next;
         }
         let mut links = Vec::new(alloc);
-        for number in at(seen.as_slice(), process, 0)..size(chain.as_slice()) {
+        for number in at(seen.as_slice(), process.number(), 0)..size(chain.as_slice()) {
             let nothing = Link {
                 waiting: NOBODY,
                 awaited: Awaited::Never,
-                next: NOBODY,
+                next: ProcessId::NONE,
             };
             links.push(at(chain.as_slice(), number, nothing))?;
         }
@@ -88,19 +92,19 @@ impl PlacingWalk {
         Ok(WaitingRing { links })
     }
 
-    fn first_waiting(&self, processes: u32) -> u32 {
-        for process in 0..processes {
-            if at(self.awaited.as_slice(), process, Awaited::Never) != Awaited::Never {
+    fn first_waiting(&self, processes: u32) -> ProcessId {
+        for process in ProcessId::first(processes) {
+            if at(self.awaited.as_slice(), process.number(), Awaited::Never) != Awaited::Never {
                 return process;
             }
         }
-        0
+        ProcessId::FIRST
     }
 
     /// Returns what the process waits for, and a process that has to go on before.
-    fn link_of(&self, order: &mut Propagation<'_>, process: u32) -> Link {
+    fn link_of(&self, order: &mut Propagation<'_>, process: ProcessId) -> Link {
         let log = order.log();
-        let awaited = at(self.awaited.as_slice(), process, Awaited::Never);
+        let awaited = at(self.awaited.as_slice(), process.number(), Awaited::Never);
         let waiting = log.number(process, self.memory.front(process));
         let next = match awaited {
             Awaited::Process(other, _) => other,
@@ -117,12 +121,17 @@ impl PlacingWalk {
     }
 
     /// The process of a reader that is not placed and reads what the location holds, other than the operation that waits; or that one's own.
-    fn reader_of(&self, order: &mut Propagation<'_>, waiting: u32, location: u32) -> u32 {
+    fn reader_of(
+        &self,
+        order: &mut Propagation<'_>,
+        waiting: OperationId,
+        location: LocationId,
+    ) -> ProcessId {
         let log = order.log();
         let held = self.memory.held(location);
         if held == NOBODY {
             order.spend(log.count() as u64);
-            for reader in 0..log.count() {
+            for reader in log.operation_ids() {
                 if self.is_awaited(log, reader, held, waiting) {
                     return log.operation(reader).process;
                 }
@@ -143,7 +152,13 @@ impl PlacingWalk {
     }
 
     /// Returns whether the operation is not placed and reads what is held, in another process than the operation that waits.
-    fn is_awaited(&self, log: &NumberedLog, reader: u32, held: u32, waiting: u32) -> bool {
+    fn is_awaited(
+        &self,
+        log: &NumberedLog,
+        reader: OperationId,
+        held: OperationId,
+        waiting: OperationId,
+    ) -> bool {
         let operation = log.operation(reader);
         let other = log.operation(waiting);
         self.memory.source(reader) == held
@@ -154,7 +169,12 @@ impl PlacingWalk {
     }
 
     /// The process of a writer that is not placed and may be the source of this reader, or the reader's own.
-    fn writer_for(&self, order: &Propagation<'_>, reader: u32, process: u32) -> u32 {
+    fn writer_for(
+        &self,
+        order: &Propagation<'_>,
+        reader: OperationId,
+        process: ProcessId,
+    ) -> ProcessId {
         let runs = order.sources().intervals(reader);
         // Each time another run comes first, or the same ring would be found again and again.
         let turn = self.stuck;

@@ -1,6 +1,6 @@
 //! The accesses of a location that can hide a source from a reader.
 
-use numbered_log::NumberedLog;
+use numbered_log::{LocationId, NumberedLog, OperationId, ProcessId, ProcessPlace};
 use std::alloc::{AllocError, Global};
 use total_tables::{at, put, sum_up};
 
@@ -12,18 +12,15 @@ pub struct HidingAccesses {
     locations: u32,
     /// For each process and location where its accesses begin, and where all end.
     begins: Vec<u32>,
-    places: Vec<u32>,
-    /// For each entry that is a plain read the place of the nearest access before it that is no read of its value, or 0; of a writer its
+    places: Vec<ProcessPlace>,
+    /// For each entry that is a plain read the place of the nearest access before it that is no read of its value, or `START`; of a writer its
     /// own place. So reads of one value in a row are passed in one look.
-    others_before: Vec<u32>,
+    others_before: Vec<ProcessPlace>,
     /// The same of the nearest one behind it, or `FAR`.
-    others_behind: Vec<u32>,
+    others_behind: Vec<ProcessPlace>,
     /// For each entry the value that is read, or none of a writer.
     values: Vec<Option<u64>>,
 }
-
-/// A place behind all others.
-pub const FAR: u32 = u32::MAX;
 
 impl HidingAccesses {
     /// The accesses of the log. The operations that hide are the writers and those that are named.
@@ -37,19 +34,19 @@ impl HidingAccesses {
         let mut accesses = HidingAccesses {
             locations: log.locations(),
             begins: vec![in alloc; 0; pairs.wrapping_add(2) as usize]?,
-            places: vec![in alloc; 0; count]?,
-            others_before: vec![in alloc; 0; count]?,
-            others_behind: vec![in alloc; FAR; count]?,
+            places: vec![in alloc; ProcessPlace::START; count]?,
+            others_before: vec![in alloc; ProcessPlace::START; count]?,
+            others_behind: vec![in alloc; ProcessPlace::FAR; count]?,
             values: vec![in alloc; None; count]?,
         };
-        for number in 0..log.count() {
-            if at(hides, number, false) {
+        for number in log.operation_ids() {
+            if at(hides, number.number(), false) {
                 accesses.count_one(log, number);
             }
         }
         sum_up(accesses.begins.as_mut_slice());
-        for number in 0..log.count() {
-            if at(hides, number, false) {
+        for number in log.operation_ids() {
+            if at(hides, number.number(), false) {
                 accesses.enter(log, number);
             }
         }
@@ -60,11 +57,14 @@ impl HidingAccesses {
     }
 
     #[inline(always)]
-    fn pair_of(&self, process: u32, location: u32) -> u32 {
-        process.wrapping_mul(self.locations).wrapping_add(location)
+    fn pair_of(&self, process: ProcessId, location: LocationId) -> u32 {
+        process
+            .number()
+            .wrapping_mul(self.locations)
+            .wrapping_add(location.number())
     }
 
-    fn count_one(&mut self, log: &NumberedLog, number: u32) {
+    fn count_one(&mut self, log: &NumberedLog, number: OperationId) {
         let operation = log.operation(number);
         let place = self
             .pair_of(operation.process, operation.location)
@@ -73,7 +73,7 @@ impl HidingAccesses {
         put(self.begins.as_mut_slice(), place, more);
     }
 
-    fn enter(&mut self, log: &NumberedLog, number: u32) {
+    fn enter(&mut self, log: &NumberedLog, number: OperationId) {
         let operation = log.operation(number);
         let place = self
             .pair_of(operation.process, operation.location)
@@ -92,9 +92,9 @@ impl HidingAccesses {
         let begin = at(self.begins.as_slice(), pair, 0);
         let end = at(self.begins.as_slice(), pair.wrapping_add(1), 0);
         for entry in begin..end {
-            let mut other = at(self.places.as_slice(), entry, 0);
+            let mut other = at(self.places.as_slice(), entry, ProcessPlace::START);
             if self.value(entry).is_some() {
-                other = 0;
+                other = ProcessPlace::START;
                 if entry > begin {
                     let previous = entry.wrapping_sub(1);
                     other = self.linked(entry, previous, self.others_before.as_slice());
@@ -104,9 +104,9 @@ impl HidingAccesses {
         }
         for back in begin..end {
             let entry = end.wrapping_sub(1).wrapping_sub(back.wrapping_sub(begin));
-            let mut other = at(self.places.as_slice(), entry, 0);
+            let mut other = at(self.places.as_slice(), entry, ProcessPlace::START);
             if self.value(entry).is_some() {
-                other = FAR;
+                other = ProcessPlace::FAR;
                 let next = entry.wrapping_add(1);
                 if next < end {
                     other = self.linked(entry, next, self.others_behind.as_slice());
@@ -117,11 +117,11 @@ impl HidingAccesses {
     }
 
     /// The place of the neighbour, or what it is linked to if both read one value.
-    fn linked(&self, entry: u32, neighbour: u32, links: &[u32]) -> u32 {
+    fn linked(&self, entry: u32, neighbour: u32, links: &[ProcessPlace]) -> ProcessPlace {
         if self.value(neighbour) == self.value(entry) {
-            at(links, neighbour, 0)
+            at(links, neighbour, ProcessPlace::START)
         } else {
-            at(self.places.as_slice(), neighbour, 0)
+            at(self.places.as_slice(), neighbour, ProcessPlace::START)
         }
     }
 
@@ -133,7 +133,7 @@ impl HidingAccesses {
     /// The first entry, from one up to another, that has this place or a later one, or the end. Entries are numbered by 32 bits, so 32
     /// halvings are enough.
     #[inline(always)]
-    fn first_from(&self, begin: u32, end: u32, place: u32) -> u32 {
+    fn first_from(&self, begin: u32, end: u32, place: ProcessPlace) -> u32 {
         let mut low = begin;
         let mut high = end;
         for _ in 0..32 {
@@ -141,7 +141,7 @@ impl HidingAccesses {
                 break;
             }
             let middle = low.wrapping_add(high.wrapping_sub(low) / 2);
-            if at(self.places.as_slice(), middle, 0) < place {
+            if at(self.places.as_slice(), middle, ProcessPlace::START) < place {
                 low = middle.wrapping_add(1);
             } else {
                 high = middle;
@@ -150,51 +150,68 @@ impl HidingAccesses {
         low
     }
 
-    /// The place of the process's last access of the location up to this place that is no plain read of the value, or 0.
+    /// The place of the process's last access of the location up to this place that is no plain read of the value, or `START`.
     #[inline(always)]
-    pub fn previous(&self, process: u32, location: u32, value: u64, place: u32) -> u32 {
+    pub fn previous(
+        &self,
+        process: ProcessId,
+        location: LocationId,
+        value: u64,
+        place: ProcessPlace,
+    ) -> ProcessPlace {
         let pair = self.pair_of(process, location);
         let begin = at(self.begins.as_slice(), pair, 0);
         let end = at(self.begins.as_slice(), pair.wrapping_add(1), 0);
-        let behind = self.first_from(begin, end, place.saturating_add(1));
+        let behind = self.first_from(begin, end, place.ahead(1));
         if behind <= begin {
-            return 0;
+            return ProcessPlace::START;
         }
         let entry = behind.wrapping_sub(1);
         if self.value(entry) == Some(value) {
-            at(self.others_before.as_slice(), entry, 0)
+            at(self.others_before.as_slice(), entry, ProcessPlace::START)
         } else {
-            at(self.places.as_slice(), entry, 0)
+            at(self.places.as_slice(), entry, ProcessPlace::START)
         }
     }
 
     /// The place of the process's first access of the location from this place on that is no plain read of the value, or `FAR`.
     #[inline(always)]
-    pub fn next(&self, process: u32, location: u32, value: u64, place: u32) -> u32 {
+    pub fn next(
+        &self,
+        process: ProcessId,
+        location: LocationId,
+        value: u64,
+        place: ProcessPlace,
+    ) -> ProcessPlace {
         let pair = self.pair_of(process, location);
         let begin = at(self.begins.as_slice(), pair, 0);
         let end = at(self.begins.as_slice(), pair.wrapping_add(1), 0);
         let entry = self.first_from(begin, end, place);
         if entry >= end {
-            return FAR;
+            return ProcessPlace::FAR;
         }
         if self.value(entry) == Some(value) {
-            at(self.others_behind.as_slice(), entry, FAR)
+            at(self.others_behind.as_slice(), entry, ProcessPlace::FAR)
         } else {
-            at(self.places.as_slice(), entry, FAR)
+            at(self.places.as_slice(), entry, ProcessPlace::FAR)
         }
     }
 
     /// The place of the process's first access of the location from this place on, or `FAR`.
     #[inline(always)]
-    pub fn next_of_any(&self, process: u32, location: u32, place: u32) -> u32 {
+    pub fn next_of_any(
+        &self,
+        process: ProcessId,
+        location: LocationId,
+        place: ProcessPlace,
+    ) -> ProcessPlace {
         let pair = self.pair_of(process, location);
         let begin = at(self.begins.as_slice(), pair, 0);
         let end = at(self.begins.as_slice(), pair.wrapping_add(1), 0);
         let entry = self.first_from(begin, end, place);
         if entry >= end {
-            return FAR;
+            return ProcessPlace::FAR;
         }
-        at(self.places.as_slice(), entry, FAR)
+        at(self.places.as_slice(), entry, ProcessPlace::FAR)
     }
 }

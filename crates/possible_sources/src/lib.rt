@@ -14,4 +14,4 @@ pub use hiding_accesses::HidingAccesses;
 pub use reader_classes::ReaderClasses;
 pub use source_intervals::{INITIAL_VALUE, LossCause, LostBound, SourceIntervals, SourceLoss};
 pub use time::Time;
-pub use value_classes::ValueClasses;
+pub use value_classes::{ClassId, ClassIds, ValueClasses};

@@ -1,7 +1,7 @@
 //! The readers of each value of a location.
 
-use crate::value_classes::ValueClasses;
-use numbered_log::{NOBODY, NumberedLog};
+use crate::value_classes::{ClassId, ValueClasses};
+use numbered_log::{NOBODY, NumberedLog, OperationId};
 use std::alloc::{AllocError, Global};
 use total_tables::{at, put, sum_up};
 
@@ -10,16 +10,16 @@ use total_tables::{at, put, sum_up};
 pub struct ReaderClasses {
     /// For each class where its readers begin, and where all end.
     begins: Vec<u32>,
-    readers: Vec<u32>,
+    readers: Vec<OperationId>,
 }
 
-/// The class that the operation reads, or `NOBODY`.
-fn class_read(log: &NumberedLog, classes: &ValueClasses, number: u32) -> u32 {
+/// The class that the operation reads, or none.
+fn class_read(log: &NumberedLog, classes: &ValueClasses, number: OperationId) -> ClassId {
     let operation = log.operation(number);
     if operation.reads {
         classes.class(operation.location, operation.needed)
     } else {
-        NOBODY
+        ClassId::NONE
     }
 }
 
@@ -35,19 +35,19 @@ impl ReaderClasses {
             readers: vec![in alloc; NOBODY; log.count() as usize]?,
         };
         // They are counted two places further on: summed up, the entry one place on is where a class begins, and moves on while it is filled.
-        for number in 0..log.count() {
+        for number in log.operation_ids() {
             let class = class_read(log, classes, number);
-            if class != NOBODY {
-                let place = class.wrapping_add(2);
+            if class != ClassId::NONE {
+                let place = class.number().wrapping_add(2);
                 let more = at(readers.begins.as_slice(), place, 0).wrapping_add(1);
                 put(readers.begins.as_mut_slice(), place, more);
             }
         }
         sum_up(readers.begins.as_mut_slice());
-        for number in 0..log.count() {
+        for number in log.operation_ids() {
             let class = class_read(log, classes, number);
-            if class != NOBODY {
-                let place = class.wrapping_add(1);
+            if class != ClassId::NONE {
+                let place = class.next().number();
                 let free = at(readers.begins.as_slice(), place, 0);
                 put(readers.begins.as_mut_slice(), place, free.wrapping_add(1));
                 put(readers.readers.as_mut_slice(), free, number);
@@ -58,24 +58,24 @@ impl ReaderClasses {
 
     /// The position at which the readers of the class begin.
     #[inline(always)]
-    pub fn begin(&self, class: u32) -> u32 {
-        at(self.begins.as_slice(), class, 0)
+    pub fn begin(&self, class: ClassId) -> u32 {
+        at(self.begins.as_slice(), class.number(), 0)
     }
 
     /// The position at which they end.
     #[inline(always)]
-    pub fn end(&self, class: u32) -> u32 {
-        self.begin(class.wrapping_add(1))
+    pub fn end(&self, class: ClassId) -> u32 {
+        self.begin(class.next())
     }
 
     #[inline(always)]
-    pub fn reader(&self, position: u32) -> u32 {
+    pub fn reader(&self, position: u32) -> OperationId {
         at(self.readers.as_slice(), position, NOBODY)
     }
 
     /// The first position, from one up to another, whose reader has this number or a larger one.
     #[inline(always)]
-    pub fn first_from(&self, begin: u32, end: u32, number: u32) -> u32 {
+    pub fn first_from(&self, begin: u32, end: u32, number: OperationId) -> u32 {
         let mut low = begin;
         let mut high = end;
         for _ in 0..32 {

@@ -1,13 +1,15 @@
 //! The possible sources of each reader, as intervals.
 
 use crate::time::Time;
-use crate::value_classes::ValueClasses;
-use numbered_log::{NOBODY, NumberedLog, NumberedOrigin, Operation};
+use crate::value_classes::{ClassId, ValueClasses};
+use numbered_log::{
+    LocationId, NO_NUMBER, NOBODY, NumberedLog, NumberedOrigin, Operation, OperationId, ProcessId,
+};
 use std::alloc::{AllocError, Global};
 use total_tables::{at, put, size};
 
 /// The initial value in place of a writer.
-pub const INITIAL_VALUE: u32 = NOBODY;
+pub const INITIAL_VALUE: OperationId = NOBODY;
 
 /// The bound of an interval that was moved, or the initial value that was lost.
 #[derive(Clone, Copy, PartialEq, Eq)]
@@ -23,16 +25,16 @@ pub enum LostBound {
 #[derive(Clone, Copy)]
 pub struct LossCause {
     /// The writer that was lost and is nearest to what stays.
-    pub writer: u32,
+    pub writer: OperationId,
     /// The access that hides it, or the reader if it stands after that.
-    pub witness: u32,
+    pub witness: OperationId,
     pub time: Time,
 }
 
 /// A change of a reader's possible sources: what was lost, when, and by which witness. It is a piece of a reason.
 #[derive(Clone, Copy)]
 pub struct SourceLoss {
-    pub reader: u32,
+    pub reader: OperationId,
     /// The number of the interval among all.
     pub interval: u32,
     pub bound: LostBound,
@@ -41,14 +43,14 @@ pub struct SourceLoss {
     pub old_bound: u32,
     /// The number of sources before, so that it is not counted again when the loss is taken back.
     old_count: u32,
-    /// The loss before this one at the same bound, or `NOBODY`. By these an explanation finds the bound as it was at an earlier time.
+    /// The loss before this one at the same bound, or `NO_NUMBER`. By these an explanation finds the bound as it was at an earlier time.
     pub previous: u32,
 }
 
 /// Nothing lost.
 const NO_LOSS: SourceLoss = SourceLoss {
     reader: NOBODY,
-    interval: NOBODY,
+    interval: NO_NUMBER,
     bound: LostBound::Initial,
     cause: LossCause {
         writer: NOBODY,
@@ -57,7 +59,7 @@ const NO_LOSS: SourceLoss = SourceLoss {
     },
     old_bound: 0,
     old_count: 0,
-    previous: NOBODY,
+    previous: NO_NUMBER,
 };
 
 /// For each reader, which is an operation or, behind all operations, the final value of a location, its possible sources: of each process
@@ -67,8 +69,8 @@ pub struct SourceIntervals {
     operations: u32,
     /// For each reader where its intervals begin, and where all end.
     begins: Vec<u32>,
-    /// For each reader its class, or `NOBODY`.
-    classes: Vec<u32>,
+    /// For each reader its class, if it has one.
+    classes: Vec<ClassId>,
     lows: Vec<u32>,
     highs: Vec<u32>,
     /// For each interval its last loss at either end.
@@ -76,9 +78,9 @@ pub struct SourceIntervals {
     late: Vec<u32>,
     /// For each reader whether the initial value is possible.
     is_initial: Vec<bool>,
-    /// For each reader the loss of the initial value, or `NOBODY`.
+    /// For each reader the loss of the initial value, or `NO_NUMBER`.
     initial_losses: Vec<u32>,
-    /// For each reader the number of its possible sources, or `NOBODY` of what reads nothing.
+    /// For each reader the number of its possible sources, or `NO_NUMBER` of what reads nothing.
     counts: Vec<u32>,
     losses: Vec<SourceLoss>,
 }
@@ -105,7 +107,7 @@ impl Drop for SourceIntervals {
 /// For each location the last writer that was met, with its process.
 #[derive(Drop)]
 struct LatestWrites {
-    writers: Vec<u32>,
+    writers: Vec<OperationId>,
 }
 
 impl SourceIntervals {
@@ -120,11 +122,15 @@ impl SourceIntervals {
         let mut last = LatestWrites {
             writers: vec![in alloc; NOBODY; log.locations() as usize]?,
         };
-        for number in 0..log.count() {
+        for number in log.operation_ids() {
             sources.narrow_by_program(log, classes, number, &last);
             let operation = log.operation(number);
             if operation.writes {
-                put(last.writers.as_mut_slice(), operation.location, number);
+                put(
+                    last.writers.as_mut_slice(),
+                    operation.location.number(),
+                    number,
+                );
             }
         }
         sources.narrow_final_values(alloc, log, classes)?;
@@ -141,17 +147,17 @@ impl SourceIntervals {
         let mut sources = SourceIntervals {
             operations: log.count(),
             begins: Vec::new(alloc),
-            classes: vec![in alloc; NOBODY; readers as usize]?,
+            classes: vec![in alloc; ClassId::NONE; readers as usize]?,
             lows: Vec::new(alloc),
             highs: Vec::new(alloc),
             hidden: Vec::new(alloc),
             late: Vec::new(alloc),
             is_initial: vec![in alloc; false; readers as usize]?,
-            initial_losses: vec![in alloc; NOBODY; readers as usize]?,
-            counts: vec![in alloc; NOBODY; readers as usize]?,
+            initial_losses: vec![in alloc; NO_NUMBER; readers as usize]?,
+            counts: vec![in alloc; NO_NUMBER; readers as usize]?,
             losses: Vec::new(alloc),
         };
-        for reader in 0..readers {
+        for reader in OperationId::first(readers) {
             sources.enter(log, classes, reader)?;
         }
         let end = size(sources.lows.as_slice());
@@ -164,7 +170,7 @@ impl SourceIntervals {
         &mut self,
         log: &NumberedLog,
         classes: &ValueClasses,
-        reader: u32,
+        reader: OperationId,
     ) -> Result<(), AllocError> {
         let begin = size(self.lows.as_slice());
         self.begins.push(begin)?;
@@ -172,27 +178,27 @@ impl SourceIntervals {
             return Ok(());
         };
         let class = classes.class(location, value);
-        put(self.classes.as_mut_slice(), reader, class);
+        put(self.classes.as_mut_slice(), reader.number(), class);
         let initial = log.initial(location) == Some(value);
-        put(self.is_initial.as_mut_slice(), reader, initial);
+        put(self.is_initial.as_mut_slice(), reader.number(), initial);
         let mut count = initial as u32;
         for run in 0..classes.run_count(class) {
             let run = classes.first_run(class).wrapping_add(run);
             self.lows.push(classes.begin(run))?;
             self.highs.push(classes.end(run))?;
-            self.hidden.push(NOBODY)?;
-            self.late.push(NOBODY)?;
+            self.hidden.push(NO_NUMBER)?;
+            self.late.push(NO_NUMBER)?;
             count = count
                 .wrapping_add(classes.end(run))
                 .wrapping_sub(classes.begin(run));
         }
-        put(self.counts.as_mut_slice(), reader, count);
+        put(self.counts.as_mut_slice(), reader.number(), count);
         Ok(())
     }
 
     /// The location and the value that the reader reads.
-    fn reads(&self, log: &NumberedLog, reader: u32) -> Option<(u32, u64)> {
-        if reader < self.operations {
+    fn reads(&self, log: &NumberedLog, reader: OperationId) -> Option<(LocationId, u64)> {
+        if reader.number() < self.operations {
             let operation = log.operation(reader);
             if operation.reads {
                 Some((operation.location, operation.needed))
@@ -200,7 +206,7 @@ impl SourceIntervals {
                 None
             }
         } else {
-            let location = reader.wrapping_sub(self.operations);
+            let location = LocationId::new(reader.number().wrapping_sub(self.operations));
             match log.last(location) {
                 Some(value) => Some((location, value)),
                 None => None,
@@ -214,7 +220,7 @@ impl SourceIntervals {
         &mut self,
         log: &NumberedLog,
         classes: &ValueClasses,
-        number: u32,
+        number: OperationId,
         last: &LatestWrites,
     ) {
         let operation = log.operation(number);
@@ -223,7 +229,7 @@ impl SourceIntervals {
         }
         let own = last.of(log, operation);
         if own != NOBODY {
-            put(self.is_initial.as_mut_slice(), number, false);
+            put(self.is_initial.as_mut_slice(), number.number(), false);
         }
         for run in 0..self.intervals(number) {
             let process = self.process(classes, number, run);
@@ -236,7 +242,12 @@ impl SourceIntervals {
     }
 
     /// Leaves the reading operation what its origin allows.
-    fn narrow_by_origin(&mut self, classes: &ValueClasses, number: u32, operation: Operation) {
+    fn narrow_by_origin(
+        &mut self,
+        classes: &ValueClasses,
+        number: OperationId,
+        operation: Operation,
+    ) {
         match operation.origin {
             NumberedOrigin::Any => {}
             NumberedOrigin::Initial => {
@@ -245,7 +256,7 @@ impl SourceIntervals {
                 }
             }
             NumberedOrigin::Operation(origin) => {
-                put(self.is_initial.as_mut_slice(), number, false);
+                put(self.is_initial.as_mut_slice(), number.number(), false);
                 for run in 0..self.intervals(number) {
                     self.keep_only(classes, number, run, origin);
                 }
@@ -254,7 +265,13 @@ impl SourceIntervals {
     }
 
     /// Leaves this writer alone in the interval, or none if it is not there.
-    fn keep_only(&mut self, classes: &ValueClasses, reader: u32, run: u32, writer: u32) {
+    fn keep_only(
+        &mut self,
+        classes: &ValueClasses,
+        reader: OperationId,
+        run: u32,
+        writer: OperationId,
+    ) {
         let interval = self.interval(reader, run);
         let low = at(self.lows.as_slice(), interval, 0);
         let high = at(self.highs.as_slice(), interval, 0);
@@ -272,8 +289,8 @@ impl SourceIntervals {
     }
 
     /// Counts the sources of the reader anew.
-    fn count_again(&mut self, reader: u32) {
-        let mut count = at(self.is_initial.as_slice(), reader, false) as u32;
+    fn count_again(&mut self, reader: OperationId) {
+        let mut count = at(self.is_initial.as_slice(), reader.number(), false) as u32;
         for run in 0..self.intervals(reader) {
             let width = self.high(reader, run).saturating_sub(self.low(reader, run));
             count = count.wrapping_add(width);
@@ -289,20 +306,20 @@ impl SourceIntervals {
         classes: &ValueClasses,
     ) -> Result<(), AllocError> {
         let mut last = vec![in alloc; NOBODY; log.locations() as usize]?;
-        for process in 0..log.processes() {
-            for place in 1..log.length(process).wrapping_add(1) {
+        for process in log.process_ids() {
+            for place in log.places(process) {
                 let number = log.number(process, place);
                 let operation = log.operation(number);
                 if operation.writes {
-                    put(last.as_mut_slice(), operation.location, number);
+                    put(last.as_mut_slice(), operation.location.number(), number);
                 }
             }
-            for location in 0..log.locations() {
-                let reader = self.operations.wrapping_add(location);
-                let writer = at(last.as_slice(), location, NOBODY);
+            for location in log.location_ids() {
+                let reader = log.final_reader(location);
+                let writer = at(last.as_slice(), location.number(), NOBODY);
                 if writer != NOBODY {
-                    put(self.is_initial.as_mut_slice(), reader, false);
-                    put(last.as_mut_slice(), location, NOBODY);
+                    put(self.is_initial.as_mut_slice(), reader.number(), false);
+                    put(last.as_mut_slice(), location.number(), NOBODY);
                 }
                 for run in 0..self.intervals(reader) {
                     if self.process(classes, reader, run) == process {
@@ -311,8 +328,8 @@ impl SourceIntervals {
                 }
             }
         }
-        for location in 0..log.locations() {
-            let reader = self.operations.wrapping_add(location);
+        for location in log.location_ids() {
+            let reader = log.final_reader(location);
             if self.is_reader(reader) {
                 self.count_again(reader);
             }
@@ -325,73 +342,73 @@ impl SourceIntervals {
         size(self.counts.as_slice())
     }
 
-    /// The class of the reader, or `NOBODY`.
+    /// The class of the reader, or none.
     #[inline(always)]
-    pub fn class(&self, reader: u32) -> u32 {
-        at(self.classes.as_slice(), reader, NOBODY)
+    pub fn class(&self, reader: OperationId) -> ClassId {
+        at(self.classes.as_slice(), reader.number(), ClassId::NONE)
     }
 
     #[inline(always)]
-    pub fn intervals(&self, reader: u32) -> u32 {
-        at(self.begins.as_slice(), reader.wrapping_add(1), 0).saturating_sub(at(
+    pub fn intervals(&self, reader: OperationId) -> u32 {
+        at(self.begins.as_slice(), reader.next().number(), 0).saturating_sub(at(
             self.begins.as_slice(),
-            reader,
+            reader.number(),
             0,
         ))
     }
 
     /// The number among all of the reader's interval of this number.
     #[inline(always)]
-    pub fn interval(&self, reader: u32, run: u32) -> u32 {
-        at(self.begins.as_slice(), reader, 0).wrapping_add(run)
+    pub fn interval(&self, reader: OperationId, run: u32) -> u32 {
+        at(self.begins.as_slice(), reader.number(), 0).wrapping_add(run)
     }
 
     /// The process of the interval.
     #[inline(always)]
-    pub fn process(&self, classes: &ValueClasses, reader: u32, run: u32) -> u32 {
+    pub fn process(&self, classes: &ValueClasses, reader: OperationId, run: u32) -> ProcessId {
         classes.process(classes.first_run(self.class(reader)).wrapping_add(run))
     }
 
     /// The first position of the interval.
     #[inline(always)]
-    pub fn low(&self, reader: u32, run: u32) -> u32 {
+    pub fn low(&self, reader: OperationId, run: u32) -> u32 {
         at(self.lows.as_slice(), self.interval(reader, run), 0)
     }
 
     /// The position behind the interval.
     #[inline(always)]
-    pub fn high(&self, reader: u32, run: u32) -> u32 {
+    pub fn high(&self, reader: OperationId, run: u32) -> u32 {
         at(self.highs.as_slice(), self.interval(reader, run), 0)
     }
 
     /// Returns whether it reads anything.
     #[inline(always)]
-    pub fn is_reader(&self, reader: u32) -> bool {
-        self.count(reader) != NOBODY
+    pub fn is_reader(&self, reader: OperationId) -> bool {
+        self.count(reader) != NO_NUMBER
     }
 
-    /// The number of its possible sources when it was last looked at, or `NOBODY` of what reads nothing.
+    /// The number of its possible sources when it was last looked at, or `NO_NUMBER` of what reads nothing.
     #[inline(always)]
-    pub fn count(&self, reader: u32) -> u32 {
-        at(self.counts.as_slice(), reader, NOBODY)
+    pub fn count(&self, reader: OperationId) -> u32 {
+        at(self.counts.as_slice(), reader.number(), NO_NUMBER)
     }
 
     /// Returns whether it reads and has other than one possible source.
     #[inline(always)]
-    pub fn has_several(&self, reader: u32) -> bool {
+    pub fn has_several(&self, reader: OperationId) -> bool {
         let count = self.count(reader);
-        count != 1 && count != NOBODY
+        count != 1 && count != NO_NUMBER
     }
 
     /// Returns whether the initial value is possible.
     #[inline(always)]
-    pub fn has_initial(&self, reader: u32) -> bool {
-        at(self.is_initial.as_slice(), reader, false)
-            && at(self.initial_losses.as_slice(), reader, NOBODY) == NOBODY
+    pub fn has_initial(&self, reader: OperationId) -> bool {
+        at(self.is_initial.as_slice(), reader.number(), false)
+            && at(self.initial_losses.as_slice(), reader.number(), NO_NUMBER) == NO_NUMBER
     }
 
     /// A possible source, the only one if there is one.
-    pub fn source(&self, classes: &ValueClasses, reader: u32) -> u32 {
+    pub fn source(&self, classes: &ValueClasses, reader: OperationId) -> OperationId {
         if !self.has_initial(reader) {
             for run in 0..self.intervals(reader) {
                 if self.low(reader, run) < self.high(reader, run) {
@@ -404,12 +421,17 @@ impl SourceIntervals {
 
     /// Returns whether the writer is a possible source of the reader.
     #[inline(always)]
-    pub fn may_read(&self, classes: &ValueClasses, reader: u32, writer: u32) -> bool {
+    pub fn may_read(
+        &self,
+        classes: &ValueClasses,
+        reader: OperationId,
+        writer: OperationId,
+    ) -> bool {
         if writer == INITIAL_VALUE {
             return self.has_initial(reader);
         }
         let class = self.class(reader);
-        if class == NOBODY || classes.class_of(writer) != class {
+        if class == ClassId::NONE || classes.class_of(writer) != class {
             return false;
         }
         let run = classes
@@ -420,20 +442,20 @@ impl SourceIntervals {
     }
 
     /// Sets the number of possible sources of the reader.
-    pub fn set_count(&mut self, reader: u32, count: u32) {
-        put(self.counts.as_mut_slice(), reader, count);
+    pub fn set_count(&mut self, reader: OperationId, count: u32) {
+        put(self.counts.as_mut_slice(), reader.number(), count);
     }
 
     /// Moves the first position of an interval: the writers before it are hidden.
     pub fn hide_before(
         &mut self,
-        reader: u32,
+        reader: OperationId,
         run: u32,
         low: u32,
         cause: LossCause,
     ) -> Result<(), AllocError> {
         let interval = self.interval(reader, run);
-        let previous = at(self.hidden.as_slice(), interval, NOBODY);
+        let previous = at(self.hidden.as_slice(), interval, NO_NUMBER);
         let old_bound = at(self.lows.as_slice(), interval, 0);
         let number = self.losses();
         put(self.hidden.as_mut_slice(), interval, number);
@@ -452,13 +474,13 @@ impl SourceIntervals {
     /// Moves the position behind an interval: the writers from it on stand after the reader.
     pub fn end_before(
         &mut self,
-        reader: u32,
+        reader: OperationId,
         run: u32,
         high: u32,
         cause: LossCause,
     ) -> Result<(), AllocError> {
         let interval = self.interval(reader, run);
-        let previous = at(self.late.as_slice(), interval, NOBODY);
+        let previous = at(self.late.as_slice(), interval, NO_NUMBER);
         let old_bound = at(self.highs.as_slice(), interval, 0);
         let number = self.losses();
         put(self.late.as_mut_slice(), interval, number);
@@ -475,17 +497,21 @@ impl SourceIntervals {
     }
 
     /// Takes the initial value from the reader, which the witness hides.
-    pub fn hide_initial(&mut self, reader: u32, cause: LossCause) -> Result<(), AllocError> {
+    pub fn hide_initial(
+        &mut self,
+        reader: OperationId,
+        cause: LossCause,
+    ) -> Result<(), AllocError> {
         let number = self.losses();
-        put(self.initial_losses.as_mut_slice(), reader, number);
+        put(self.initial_losses.as_mut_slice(), reader.number(), number);
         self.note_loss(SourceLoss {
             reader,
-            interval: NOBODY,
+            interval: NO_NUMBER,
             bound: LostBound::Initial,
             cause,
             old_bound: 0,
             old_count: 0,
-            previous: NOBODY,
+            previous: NO_NUMBER,
         })
     }
 
@@ -521,28 +547,32 @@ impl SourceIntervals {
                 put(self.highs.as_mut_slice(), loss.interval, loss.old_bound);
             }
             LostBound::Initial => {
-                put(self.initial_losses.as_mut_slice(), loss.reader, NOBODY);
+                put(
+                    self.initial_losses.as_mut_slice(),
+                    loss.reader.number(),
+                    NO_NUMBER,
+                );
             }
         }
         self.set_count(loss.reader, loss.old_count);
     }
 
-    /// The number of the last loss at the lower bound of the interval, or `NOBODY`.
+    /// The number of the last loss at the lower bound of the interval, or `NO_NUMBER`.
     #[inline(always)]
     pub fn last_hidden(&self, interval: u32) -> u32 {
-        at(self.hidden.as_slice(), interval, NOBODY)
+        at(self.hidden.as_slice(), interval, NO_NUMBER)
     }
 
-    /// The number of the last loss at the upper bound of the interval, or `NOBODY`.
+    /// The number of the last loss at the upper bound of the interval, or `NO_NUMBER`.
     #[inline(always)]
     pub fn last_late(&self, interval: u32) -> u32 {
-        at(self.late.as_slice(), interval, NOBODY)
+        at(self.late.as_slice(), interval, NO_NUMBER)
     }
 
-    /// The number of the loss of the reader's initial value, or `NOBODY`.
+    /// The number of the loss of the reader's initial value, or `NO_NUMBER`.
     #[inline(always)]
-    pub fn initial_loss(&self, reader: u32) -> u32 {
-        at(self.initial_losses.as_slice(), reader, NOBODY)
+    pub fn initial_loss(&self, reader: OperationId) -> u32 {
+        at(self.initial_losses.as_slice(), reader.number(), NO_NUMBER)
     }
 
     #[inline(always)]
@@ -551,15 +581,15 @@ impl SourceIntervals {
     }
 
     /// Returns whether the initial value was a possible source by program order.
-    pub fn had_initial(&self, reader: u32) -> bool {
-        at(self.is_initial.as_slice(), reader, false)
+    pub fn had_initial(&self, reader: OperationId) -> bool {
+        at(self.is_initial.as_slice(), reader.number(), false)
     }
 }
 
 impl LatestWrites {
     /// The last writer of the operation's location that was met, if it is of the operation's process.
-    fn of(&self, log: &NumberedLog, operation: Operation) -> u32 {
-        let writer = at(self.writers.as_slice(), operation.location, NOBODY);
+    fn of(&self, log: &NumberedLog, operation: Operation) -> OperationId {
+        let writer = at(self.writers.as_slice(), operation.location.number(), NOBODY);
         if writer != NOBODY && log.operation(writer).process == operation.process {
             writer
         } else {

@@ -1,7 +1,7 @@
 //! Beam searches of logs of many updates, one after the other.
 
 use beam_search::{Beam, BeamEnding, BeamSearch};
-use numbered_log::Budget;
+use numbered_log::{Budget, OperationId};
 use order_propagation::Propagation;
 use placing_walk::has_many_updates;
 use std::alloc::{AllocError, Global};
@@ -29,7 +29,7 @@ fn beam(number: u32) -> Beam {
 pub(crate) fn try_beams(
     alloc: Global,
     order: &mut Propagation<'_>,
-) -> Result<Option<Vec<u32>>, AllocError> {
+) -> Result<Option<Vec<OperationId>>, AllocError> {
     if !has_many_updates(order.log()) || !BeamSearch::can_search(order.log(), order.classes()) {
         return Ok(None);
     }
@@ -46,7 +46,7 @@ fn schedule_of_beams(
     alloc: Global,
     order: &Propagation<'_>,
     budget: &mut Budget,
-) -> Result<Option<Vec<u32>>, AllocError> {
+) -> Result<Option<Vec<OperationId>>, AllocError> {
     let entries = (order.log().count() as u64).saturating_mul(order.classes().count() as u64);
     budget.spend(entries);
     let mut search = BeamSearch::new(alloc, order.log(), order.classes(), order.rows())?;

@@ -1,7 +1,7 @@
 //! Cores of logs that are refuted by counting.
 
-use numbered_log::NumberedLog;
-use possible_sources::ValueClasses;
+use numbered_log::{LocationId, NumberedLog, OperationId};
+use possible_sources::{ClassId, ValueClasses};
 use std::alloc::{AllocError, Global};
 use total_tables::{at, put, size};
 
@@ -11,16 +11,16 @@ pub(crate) fn takers_of_class(
     alloc: Global,
     log: &NumberedLog,
     classes: &ValueClasses,
-    class: u32,
-) -> Result<Vec<u32>, AllocError> {
+    class: ClassId,
+) -> Result<Vec<OperationId>, AllocError> {
     let mut is_taker = vec![in alloc; false; log.count() as usize]?;
-    for number in 0..log.count() {
+    for number in log.operation_ids() {
         let operation = log.operation(number);
         if operation.reads
             && operation.writes
             && classes.class(operation.location, operation.needed) == class
         {
-            put(is_taker.as_mut_slice(), number, true);
+            put(is_taker.as_mut_slice(), number.number(), true);
         }
     }
     choose_last(log, classes.location(class), &mut is_taker);
@@ -31,26 +31,26 @@ pub(crate) fn takers_of_class(
 pub(crate) fn operations_of(
     alloc: Global,
     log: &NumberedLog,
-    takers: &[u32],
-) -> Result<Vec<u32>, AllocError> {
+    takers: &[OperationId],
+) -> Result<Vec<OperationId>, AllocError> {
     let mut is_taker = vec![in alloc; false; log.count() as usize]?;
     for taker in takers {
-        put(is_taker.as_mut_slice(), *taker, true);
-        if *taker >= log.count() {
-            choose_last(log, taker.wrapping_sub(log.count()), &mut is_taker);
+        put(is_taker.as_mut_slice(), taker.number(), true);
+        if log.is_final(*taker) {
+            choose_last(log, log.final_location(*taker), &mut is_taker);
         }
     }
     chosen(alloc, is_taker.as_slice())
 }
 
 /// Chooses the last writer of the location in each process.
-fn choose_last(log: &NumberedLog, location: u32, is_chosen: &mut Vec<bool>) {
-    for process in 0..log.processes() {
-        for place in (1..log.length(process).wrapping_add(1)).rev() {
+fn choose_last(log: &NumberedLog, location: LocationId, is_chosen: &mut Vec<bool>) {
+    for process in log.process_ids() {
+        for place in log.last_place(process).down_to_first() {
             let number = log.number(process, place);
             let operation = log.operation(number);
             if operation.writes && operation.location == location {
-                put(is_chosen.as_mut_slice(), number, true);
+                put(is_chosen.as_mut_slice(), number.number(), true);
                 break;
             }
         }
@@ -58,10 +58,10 @@ fn choose_last(log: &NumberedLog, location: u32, is_chosen: &mut Vec<bool>) {
 }
 
 /// Those that are chosen, by rising numbers.
-fn chosen(alloc: Global, is_chosen: &[bool]) -> Result<Vec<u32>, AllocError> {
+fn chosen(alloc: Global, is_chosen: &[bool]) -> Result<Vec<OperationId>, AllocError> {
     let mut numbers = Vec::new(alloc);
-    for number in 0..size(is_chosen) {
-        if at(is_chosen, number, false) {
+    for number in OperationId::first(size(is_chosen)) {
+        if at(is_chosen, number.number(), false) {
             numbers.push(number)?;
         }
     }

@@ -1,6 +1,6 @@
 //! Estimated places of operations in a schedule.
 
-use numbered_log::NumberedLog;
+use numbered_log::{NOBODY, NumberedLog, OperationId, ProcessPlace};
 use order_propagation::Propagation;
 use std::alloc::{AllocError, Global};
 use total_tables::{at, put, size};
@@ -30,10 +30,10 @@ impl EstimatedPlaces {
         log: &NumberedLog,
     ) -> Result<EstimatedPlaces, AllocError> {
         let mut places = Vec::with_capacity(alloc, log.count() as usize)?;
-        for number in 0..log.count() {
+        for number in log.operation_ids() {
             let operation = log.operation(number);
             let length = log.length(operation.process);
-            places.push(share(log.count(), operation.place, length))?;
+            places.push(share(log.count(), operation.place.number(), length))?;
         }
         Ok(EstimatedPlaces::of_places(alloc, places))
     }
@@ -46,8 +46,8 @@ impl EstimatedPlaces {
         let log = order.log();
         let mut places = Vec::with_capacity(alloc, log.count() as usize)?;
         let mut last: u32 = 0;
-        for number in 0..log.count() {
-            if log.operation(number).place == 1 {
+        for number in log.operation_ids() {
+            if log.operation(number).place == ProcessPlace::FIRST {
                 last = 0;
             }
             last = last.max(order.rows().estimate(number) / 2);
@@ -70,7 +70,7 @@ impl EstimatedPlaces {
     pub(crate) fn of_hint(
         alloc: Global,
         log: &NumberedLog,
-        hint: &[u32],
+        hint: &[OperationId],
     ) -> Result<EstimatedPlaces, AllocError> {
         let hinted = hinted_places(alloc, log, hint)?;
         Ok(EstimatedPlaces {
@@ -86,24 +86,32 @@ impl EstimatedPlaces {
 
     /// The place of the operation, or the first where it may lie.
     #[inline(always)]
-    pub(crate) fn place(&self, number: u32) -> u32 {
-        at(self.places.as_slice(), number, 0)
+    pub(crate) fn place(&self, number: OperationId) -> u32 {
+        at(self.places.as_slice(), number.number(), 0)
     }
 
     /// The last place where the operation may lie.
     #[inline(always)]
-    pub(crate) fn latest(&self, number: u32) -> u32 {
-        at(self.latest.as_slice(), number, self.place(number))
+    pub(crate) fn latest(&self, number: OperationId) -> u32 {
+        at(self.latest.as_slice(), number.number(), self.place(number))
     }
 }
 
 /// The place in the hint of each operation, from 1 on; 0 if it does not name it.
-fn hinted_places(alloc: Global, log: &NumberedLog, hint: &[u32]) -> Result<Vec<u32>, AllocError> {
+fn hinted_places(
+    alloc: Global,
+    log: &NumberedLog,
+    hint: &[OperationId],
+) -> Result<Vec<u32>, AllocError> {
     let mut places = vec![in alloc; 0; log.count() as usize]?;
     let named = size(hint);
     for place in 0..named {
         let scaled = share(log.count(), place, named).saturating_add(1);
-        put(places.as_mut_slice(), at(hint, place, 0), scaled);
+        put(
+            places.as_mut_slice(),
+            at(hint, place, NOBODY).number(),
+            scaled,
+        );
     }
     Ok(places)
 }
@@ -112,12 +120,12 @@ fn hinted_places(alloc: Global, log: &NumberedLog, hint: &[u32]) -> Result<Vec<u
 fn places_before(alloc: Global, log: &NumberedLog, hinted: &[u32]) -> Result<Vec<u32>, AllocError> {
     let mut places = Vec::with_capacity(alloc, log.count() as usize)?;
     let mut largest: u32 = 0;
-    for number in 0..log.count() {
-        if log.operation(number).place == 1 {
+    for number in log.operation_ids() {
+        if log.operation(number).place == ProcessPlace::FIRST {
             largest = 0;
         }
         places.push(largest)?;
-        largest = largest.max(at(hinted, number, 0));
+        largest = largest.max(at(hinted, number.number(), 0));
     }
     Ok(places)
 }
@@ -128,13 +136,13 @@ fn places_behind(alloc: Global, log: &NumberedLog, hinted: &[u32]) -> Result<Vec
     let mut places = vec![in alloc; count; count as usize]?;
     let mut least = count;
     for from_end in 1..count.wrapping_add(1) {
-        let number = count.wrapping_sub(from_end);
+        let number = OperationId::new(count.wrapping_sub(from_end));
         let operation = log.operation(number);
-        if operation.place == log.length(operation.process) {
+        if operation.place == log.last_place(operation.process) {
             least = count;
         }
-        put(places.as_mut_slice(), number, least);
-        let place = at(hinted, number, 0);
+        put(places.as_mut_slice(), number.number(), least);
+        let place = at(hinted, number.number(), 0);
         if place != 0 {
             least = least.min(place);
         }

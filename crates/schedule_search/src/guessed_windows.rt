@@ -1,6 +1,7 @@
 //! Windows: guesses around estimated places.
 
 use crate::estimated_places::EstimatedPlaces;
+use numbered_log::{ProcessId, ProcessPlace};
 use order_propagation::{Propagated, Propagation};
 use std::alloc::AllocError;
 
@@ -17,8 +18,8 @@ pub(crate) fn guess_window(
     let processes = order.log().processes();
     let steps = processes.wrapping_mul(6).wrapping_add(1);
     let stride = (width / steps).wrapping_add(least_stride(order));
-    for first in 0..processes {
-        for second in 0..processes {
+    for first in ProcessId::first(processes) {
+        for second in ProcessId::first(processes) {
             if first != second {
                 guess_between(order, places, (first, second), (width, stride))?;
             }
@@ -38,32 +39,32 @@ fn least_stride(order: &Propagation<'_>) -> u32 {
 fn guess_between(
     order: &mut Propagation<'_>,
     places: &EstimatedPlaces,
-    processes: (u32, u32),
+    processes: (ProcessId, ProcessId),
     sizes: (u32, u32),
 ) -> Result<(), AllocError> {
     let log = order.log();
-    let end = log.length(processes.1).wrapping_add(1);
-    let mut behind: u32 = 1;
-    let mut place: u32 = 1;
+    let end = log.end(processes.1);
+    let mut behind = ProcessPlace::FIRST;
+    let mut place = ProcessPlace::FIRST;
     for _ in 0..log.length(processes.0) {
-        if place > log.length(processes.0) {
+        if place > log.last_place(processes.0) {
             break;
         }
         let first = log.number(processes.0, place);
         let limit = places.latest(first).saturating_add(sizes.0);
-        for _ in behind..end {
+        for _ in behind.up_to(end) {
             if places.place(log.number(processes.1, behind)) > limit {
                 break;
             }
-            behind = behind.wrapping_add(1);
+            behind = behind.next();
         }
         if behind >= end {
             break;
         }
-        place = place.saturating_add(sizes.1);
+        place = place.ahead(sizes.1);
         let second = log.number(processes.1, behind);
         let next = log.number(processes.0, place);
-        if place > log.length(processes.0)
+        if place > log.last_place(processes.0)
             || places.place(second) <= places.latest(next).saturating_add(sizes.0)
         {
             order.guess(first, second)?;

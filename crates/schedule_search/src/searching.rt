@@ -6,7 +6,7 @@ use crate::estimated_places::EstimatedPlaces;
 use crate::first_propagation::propagate_at_first;
 use crate::guessed_windows::guess_window;
 use conflict_analysis::{Learning, core_of_conflict};
-use numbered_log::{Budget, NumberedLog};
+use numbered_log::{Budget, NumberedLog, OperationId};
 use order_propagation::{Propagated, Propagation, TrailMark};
 use placing_walk::{Deciding, PlacingWalk, WalkEnding, has_many_updates};
 use source_counting::{Counted, count_sources, crowded_class};
@@ -33,15 +33,15 @@ struct StandingWindow {
 pub struct ScheduleSearch {
     /// Windows that stand, each on top of the one before.
     windows: Vec<StandingWindow>,
-    schedule: Vec<u32>,
+    schedule: Vec<OperationId>,
     /// If the log was refuted, the operations that the reasons of that name.
-    core: Option<Vec<u32>>,
+    core: Option<Vec<OperationId>>,
     /// What all walks without guesses have learned: the pairs of no decision that their clauses left stay in the order, and name them.
     learning: Option<Learning>,
     /// Whether the order has guesses.
     is_guessing: bool,
     /// If counting by the order has refuted it, the updates and last writes that have too few sources.
-    takers: Option<Vec<u32>>,
+    takers: Option<Vec<OperationId>>,
     most_placed: u32,
 }
 
@@ -153,13 +153,13 @@ impl ScheduleSearch {
     }
 
     /// The schedule that was found.
-    pub fn schedule(&self) -> &[u32] {
+    pub fn schedule(&self) -> &[OperationId] {
         self.schedule.as_slice()
     }
 
     /// Operations whose part, with all possible sources of its readers, should have no legal schedule; none if nothing was refuted, or if there
     /// was no room for its reasons.
-    pub fn core(&self) -> Option<&[u32]> {
+    pub fn core(&self) -> Option<&[OperationId]> {
         match &self.core {
             Some(core) => Some(core.as_slice()),
             None => None,
@@ -175,7 +175,7 @@ impl ScheduleSearch {
     }
 
     /// The updates and last writes by which counting has refuted the log, after the order had dropped sources; none if it has not.
-    pub fn takers(&self) -> Option<&[u32]> {
+    pub fn takers(&self) -> Option<&[OperationId]> {
         match &self.takers {
             Some(takers) => Some(takers.as_slice()),
             None => None,
@@ -194,7 +194,7 @@ impl ScheduleSearch {
         &mut self,
         alloc: Global,
         order: &mut Propagation<'_>,
-        hint: &[u32],
+        hint: &[OperationId],
     ) -> Result<SearchEnding, AllocError> {
         if let Some(class) = crowded_class(alloc, order.log(), order.classes())? {
             self.core = Some(takers_of_class(alloc, order.log(), order.classes(), class)?);
@@ -243,7 +243,7 @@ impl ScheduleSearch {
         &mut self,
         alloc: Global,
         order: &mut Propagation<'_>,
-        hint: &[u32],
+        hint: &[OperationId],
     ) -> Result<bool, AllocError> {
         if hint.is_empty() {
             return Ok(false);

@@ -2,7 +2,7 @@
 
 use crate::class_counts::takes_source;
 use crate::source_takers::{LastInProcess, initial_of, location_of};
-use numbered_log::NOBODY;
+use numbered_log::{LocationId, NO_NUMBER, NOBODY, OperationId};
 use order_propagation::Propagation;
 use std::alloc::{AllocError, Global};
 use total_tables::{at, put, size};
@@ -13,25 +13,25 @@ pub enum Counted {
     /// All have sources, or the budget for it was spent before.
     Enough,
     /// These updates, and behind all operations last writes by location, have fewer possible sources together than they are.
-    TooFew(Vec<u32>),
+    TooFew(Vec<OperationId>),
 }
 
 /// A matching of takers, which are updates and last writes, with sources, which are operations and initial values.
 struct SourceAssignment {
     last: LastInProcess,
     /// For each taker its source, or `NOBODY`.
-    taken: Vec<u32>,
+    taken: Vec<OperationId>,
     /// For each source its taker, or `NOBODY`.
-    taker: Vec<u32>,
+    taker: Vec<OperationId>,
     /// For each position of a writer one behind which the next free one may stand, found anew as it is asked for, so that a long run of sources
     /// that are taken is passed in few looks.
     free: Vec<u32>,
     /// For each source the turn in which it was seen last, and from which taker.
     turns: Vec<u32>,
-    from: Vec<u32>,
+    from: Vec<OperationId>,
     turn: u32,
     /// The takers whose sources were all seen in this turn.
-    seen: Vec<u32>,
+    seen: Vec<OperationId>,
     steps: u64,
 }
 
@@ -60,14 +60,14 @@ pub fn count_sources(
 ) -> Result<Counted, AllocError> {
     let mut assignment = SourceAssignment::new(alloc, order)?;
     let log = order.log();
-    for location in 0..log.locations() {
+    for location in log.location_ids() {
         if assignment.last.begin(location) < assignment.last.end(location)
             && !assignment.match_taker(order, order.final_reader(location))?
         {
             return assignment.too_few(alloc);
         }
     }
-    for number in 0..log.count() {
+    for number in log.operation_ids() {
         if takes_source(log, number) && !assignment.match_taker(order, number)? {
             return assignment.too_few(alloc);
         }
@@ -106,7 +106,11 @@ impl SourceAssignment {
 
     /// Finds a source for the taker, if need be by a way along which others change theirs. If there is none, the takers that were seen have too
     /// few.
-    fn match_taker(&mut self, order: &Propagation<'_>, first: u32) -> Result<bool, AllocError> {
+    fn match_taker(
+        &mut self,
+        order: &Propagation<'_>,
+        first: OperationId,
+    ) -> Result<bool, AllocError> {
         self.turn = self.turn.wrapping_add(1);
         self.seen.clear();
         self.seen.push(first)?;
@@ -127,13 +131,13 @@ impl SourceAssignment {
     }
 
     /// Gives the source to the taker from which it was seen, that one's to the taker before, up to the first.
-    fn change(&mut self, first: u32, found: u32) {
+    fn change(&mut self, first: OperationId, found: OperationId) {
         let mut source = found;
         for _ in 0..size(self.taken.as_slice()) {
-            let taker = at(self.from.as_slice(), source, NOBODY);
-            let next = at(self.taken.as_slice(), taker, NOBODY);
-            put(self.taken.as_mut_slice(), taker, source);
-            put(self.taker.as_mut_slice(), source, taker);
+            let taker = at(self.from.as_slice(), source.number(), NOBODY);
+            let next = at(self.taken.as_slice(), taker.number(), NOBODY);
+            put(self.taken.as_mut_slice(), taker.number(), source);
+            put(self.taker.as_mut_slice(), source.number(), taker);
             if taker == first || taker == NOBODY {
                 break;
             }
@@ -142,7 +146,11 @@ impl SourceAssignment {
     }
 
     /// Sees the possible sources of the taker. Returns one that is free, or `NOBODY`.
-    fn look_from(&mut self, order: &Propagation<'_>, taker: u32) -> Result<u32, AllocError> {
+    fn look_from(
+        &mut self,
+        order: &Propagation<'_>,
+        taker: OperationId,
+    ) -> Result<OperationId, AllocError> {
         if let Some(location) = location_of(order, taker) {
             return self.look_at_last(order, taker, location);
         }
@@ -177,9 +185,9 @@ impl SourceAssignment {
     fn look_at_last(
         &mut self,
         order: &Propagation<'_>,
-        taker: u32,
-        location: u32,
-    ) -> Result<u32, AllocError> {
+        taker: OperationId,
+        location: LocationId,
+    ) -> Result<OperationId, AllocError> {
         for position in self.last.begin(location)..self.last.end(location) {
             let writer = self.last.writer(position);
             let is_possible = order.log().last(location).is_none()
@@ -195,14 +203,14 @@ impl SourceAssignment {
     }
 
     /// Sees a source from the taker. Returns it if it is free; else its taker joins those from which is looked.
-    fn see(&mut self, source: u32, taker: u32) -> Result<u32, AllocError> {
+    fn see(&mut self, source: OperationId, taker: OperationId) -> Result<OperationId, AllocError> {
         self.steps = self.steps.wrapping_add(2);
-        if at(self.turns.as_slice(), source, self.turn) == self.turn {
+        if at(self.turns.as_slice(), source.number(), self.turn) == self.turn {
             return Ok(NOBODY);
         }
-        put(self.turns.as_mut_slice(), source, self.turn);
-        put(self.from.as_mut_slice(), source, taker);
-        let other = at(self.taker.as_slice(), source, NOBODY);
+        put(self.turns.as_mut_slice(), source.number(), self.turn);
+        put(self.from.as_mut_slice(), source.number(), taker);
+        let other = at(self.taker.as_slice(), source.number(), NOBODY);
         if other == NOBODY {
             return Ok(source);
         }
@@ -218,13 +226,13 @@ impl SourceAssignment {
             if position >= high {
                 break;
             }
-            let next = at(self.free.as_slice(), position, NOBODY);
+            let next = at(self.free.as_slice(), position, NO_NUMBER);
             let writer = order.classes().writer(position);
             if next != position {
                 let behind = at(self.free.as_slice(), next, next);
                 put(self.free.as_mut_slice(), position, behind);
                 position = next;
-            } else if at(self.taker.as_slice(), writer, NOBODY) != NOBODY {
+            } else if at(self.taker.as_slice(), writer.number(), NOBODY) != NOBODY {
                 put(self.free.as_mut_slice(), position, position.wrapping_add(1));
                 position = position.wrapping_add(1);
             } else {

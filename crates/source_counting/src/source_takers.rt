@@ -1,6 +1,6 @@
 //! What takes a source for itself.
 
-use numbered_log::{NOBODY, NumberedLog};
+use numbered_log::{LocationId, NOBODY, NumberedLog, OperationId, ProcessId};
 use order_propagation::Propagation;
 use std::alloc::{AllocError, Global};
 use total_tables::{at, put, sum_up};
@@ -11,7 +11,7 @@ use total_tables::{at, put, sum_up};
 pub(crate) struct LastInProcess {
     /// For each location where its writers begin, and where all end.
     begins: Vec<u32>,
-    writers: Vec<u32>,
+    writers: Vec<OperationId>,
 }
 
 /// Drops both tables, in one call for each exit of a function that owns them.
@@ -31,17 +31,17 @@ impl LastInProcess {
             begins: vec![in alloc; 0; log.locations().wrapping_add(2) as usize]?,
             writers: vec![in alloc; NOBODY; log.count() as usize]?,
         };
-        for number in 0..log.count() {
-            if at(is_last.as_slice(), number, false) {
-                let place = log.operation(number).location.wrapping_add(2);
+        for number in log.operation_ids() {
+            if at(is_last.as_slice(), number.number(), false) {
+                let place = log.operation(number).location.number().wrapping_add(2);
                 let more = at(last.begins.as_slice(), place, 0).wrapping_add(1);
                 put(last.begins.as_mut_slice(), place, more);
             }
         }
         sum_up(last.begins.as_mut_slice());
-        for number in 0..log.count() {
-            if at(is_last.as_slice(), number, false) {
-                let place = log.operation(number).location.wrapping_add(1);
+        for number in log.operation_ids() {
+            if at(is_last.as_slice(), number.number(), false) {
+                let place = log.operation(number).location.next().number();
                 let free = at(last.begins.as_slice(), place, 0);
                 put(last.begins.as_mut_slice(), place, free.wrapping_add(1));
                 put(last.writers.as_mut_slice(), free, number);
@@ -51,16 +51,16 @@ impl LastInProcess {
     }
 
     /// The position at which the writers of the location begin.
-    pub(crate) fn begin(&self, location: u32) -> u32 {
-        at(self.begins.as_slice(), location, 0)
+    pub(crate) fn begin(&self, location: LocationId) -> u32 {
+        at(self.begins.as_slice(), location.number(), 0)
     }
 
     /// The position at which they end.
-    pub(crate) fn end(&self, location: u32) -> u32 {
-        self.begin(location.wrapping_add(1))
+    pub(crate) fn end(&self, location: LocationId) -> u32 {
+        self.begin(location.next())
     }
 
-    pub(crate) fn writer(&self, position: u32) -> u32 {
+    pub(crate) fn writer(&self, position: u32) -> OperationId {
         at(self.writers.as_slice(), position, NOBODY)
     }
 }
@@ -68,27 +68,37 @@ impl LastInProcess {
 /// For each operation whether it is the last of its process that writes its location.
 fn last_in_process(alloc: Global, log: &NumberedLog) -> Result<Vec<bool>, AllocError> {
     let mut is_last = vec![in alloc; false; log.count() as usize]?;
-    let mut seen = vec![in alloc; NOBODY; log.locations() as usize]?;
-    for number in (0..log.count()).rev() {
+    let mut seen = vec![in alloc; ProcessId::NONE; log.locations() as usize]?;
+    for number in (0..log.count()).rev().map(OperationId::new) {
         let operation = log.operation(number);
-        if operation.writes && at(seen.as_slice(), operation.location, 0) != operation.process {
-            put(seen.as_mut_slice(), operation.location, operation.process);
-            put(is_last.as_mut_slice(), number, true);
+        if operation.writes
+            && at(
+                seen.as_slice(),
+                operation.location.number(),
+                ProcessId::FIRST,
+            ) != operation.process
+        {
+            put(
+                seen.as_mut_slice(),
+                operation.location.number(),
+                operation.process,
+            );
+            put(is_last.as_mut_slice(), number.number(), true);
         }
     }
     Ok(is_last)
 }
 
 /// The location whose last write takes a source, if the taker is one, and is behind all operations.
-pub(crate) fn location_of(order: &Propagation<'_>, taker: u32) -> Option<u32> {
-    if taker >= order.log().count() {
-        Some(taker.wrapping_sub(order.log().count()))
+pub(crate) fn location_of(order: &Propagation<'_>, taker: OperationId) -> Option<LocationId> {
+    if order.log().is_final(taker) {
+        Some(order.log().final_location(taker))
     } else {
         None
     }
 }
 
 /// The number of the location's initial value among the sources, which stand behind all operations.
-pub(crate) fn initial_of(order: &Propagation<'_>, location: u32) -> u32 {
-    order.log().count().wrapping_add(location)
+pub(crate) fn initial_of(order: &Propagation<'_>, location: LocationId) -> OperationId {
+    order.log().final_reader(location)
 }

@@ -4,7 +4,7 @@ use crate::contradiction::contradicting;
 use crate::given_order::GivenOrder;
 use crate::part::Chosen;
 use crate::shrinking::Core;
-use numbered_log::Budget;
+use numbered_log::{Budget, OperationId};
 use std::alloc::{AllocError, Global};
 use total_tables::at;
 
@@ -130,7 +130,7 @@ fn without_each<'a>(
         if place >= best.count() || best.count() <= SMALL || budget.is_spent() {
             break;
         }
-        let operation = at(best.operations(), place, 0);
+        let operation = at(best.operations(), place, OperationId::FIRST);
         within.set(operation, false);
         if finds_smaller_core(alloc, forced, &within, best, budget)? {
             place = 0;

@@ -6,7 +6,7 @@
 use crate::given_order::GivenOrder;
 use crate::part::{Chosen, part_of};
 use conflict_analysis::core_of_conflict;
-use numbered_log::{Budget, NumberedLog};
+use numbered_log::{Budget, NumberedLog, OperationId};
 use order_propagation::{Propagated, Propagation};
 use source_counting::crowded_class;
 use std::alloc::{AllocError, Global};
@@ -22,10 +22,10 @@ use total_tables::at;
 pub fn contradicting(
     alloc: Global,
     forced: &GivenOrder<'_>,
-    operations: &[u32],
+    operations: &[OperationId],
     chosen: &Chosen,
     budget: &mut Budget,
-) -> Result<Option<Vec<u32>>, AllocError> {
+) -> Result<Option<Vec<OperationId>>, AllocError> {
     let part = part_of(alloc, forced, operations, chosen, budget)?;
     let mut order = Propagation::new(alloc, &part.log, *budget)?;
     let outcome = order.propagate_in_rounds()?;
@@ -39,7 +39,11 @@ pub fn contradicting(
     };
     let mut found = Vec::new(alloc);
     for operation in &named {
-        found.push(at(part.numbers.as_slice(), *operation, 0))?;
+        found.push(at(
+            part.numbers.as_slice(),
+            operation.number(),
+            OperationId::FIRST,
+        ))?;
     }
     Ok(Some(found))
 }

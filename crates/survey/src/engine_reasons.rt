@@ -2,7 +2,7 @@
 
 use crate::local_reads::ReducedLog;
 use crate::reading::log_names;
-use numbered_log::NumberedLog;
+use numbered_log::{NumberedLog, OperationId};
 use order_certificate::{
     OrderCertificate, certificate_of_conflict, certificate_of_learning, certificate_of_takers,
 };
@@ -16,7 +16,7 @@ use trace_semantics::trace::Trace;
 pub(crate) struct TraceCertificate {
     certificate: OrderCertificate,
     /// For each operation of that log its number in the whole.
-    numbers: Vec<u32>,
+    numbers: Vec<OperationId>,
 }
 
 impl TraceCertificate {
@@ -43,7 +43,7 @@ pub(crate) fn certificate_of(
         return Ok(None);
     };
     let mut operations = Vec::new(alloc);
-    for number in 0..reduced.log.count() {
+    for number in reduced.log.operation_ids() {
         operations.push(number)?;
     }
     Ok(Some(TraceCertificate {

@@ -9,7 +9,7 @@ use crate::local_reads::ReducedLog;
 use crate::purse::Purse;
 use crate::reading::{log_of, names_of, numbers_of_names};
 use crate::shrinking::Core;
-use numbered_log::{Budget, NumberedLog};
+use numbered_log::{Budget, NumberedLog, OperationId};
 use order_propagation::Propagation;
 use schedule_search::{ScheduleSearch, SearchEnding};
 use std::alloc::{AllocError, Global};
@@ -21,8 +21,8 @@ use trace_semantics::trace::Trace;
 /// The finding, as numbers.
 #[derive(Drop)]
 enum NumberedFinding {
-    Schedule(Vec<u32>),
-    Core(Vec<u32>),
+    Schedule(Vec<OperationId>),
+    Core(Vec<OperationId>),
     Nothing,
 }
 
@@ -44,7 +44,7 @@ struct OrderedFindings {
 /// A core that was made smaller, and whether it is refuted in what the survey makes of its part.
 #[derive(Drop)]
 struct SmallCore {
-    operations: Vec<u32>,
+    operations: Vec<OperationId>,
     is_refuted: bool,
 }
 
@@ -230,7 +230,7 @@ impl NamedFinding {
 fn walk_over(
     alloc: Global,
     log: &NumberedLog,
-    hint: &[u32],
+    hint: &[OperationId],
     budget: &mut Budget,
 ) -> Result<Walked, AllocError> {
     let kept = budget.share(budget.left() / 4);
@@ -258,7 +258,7 @@ fn walk_over(
 /// The number of reads and final values that have more than one possible source.
 fn undecided_of(order: &Propagation<'_>) -> u32 {
     let mut count: u32 = 0;
-    for reader in 0..order.sources().readers() {
+    for reader in OperationId::first(order.sources().readers()) {
         if order.sources().has_several(reader) {
             count = count.wrapping_add(1);
         }
@@ -289,7 +289,7 @@ fn numbers_of(
 fn smallest_core(
     alloc: Global,
     log: &NumberedLog,
-    operations: Vec<u32>,
+    operations: Vec<OperationId>,
     spent: u64,
     budget: &mut Budget,
 ) -> Result<SmallCore, AllocError> {
@@ -301,7 +301,7 @@ fn smallest_core(
 fn smallest_core_of<'a>(
     alloc: Global,
     forced: &'a GivenOrder<'a>,
-    operations: Vec<u32>,
+    operations: Vec<OperationId>,
     spent: u64,
     budget: &mut Budget,
 ) -> Result<SmallCore, AllocError> {

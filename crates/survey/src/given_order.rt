@@ -3,7 +3,7 @@
 //! By it a part of the log keeps a read: each source that this order leaves possible must be in the part.
 
 use closed_rows::{ClosedRows, OrderedPairs, PairReason, Sweeps, close_rows};
-use numbered_log::{Budget, NOBODY, NumberedLog};
+use numbered_log::{Budget, LocationId, NOBODY, NumberedLog, OperationId, ProcessId, ProcessPlace};
 use possible_sources::{HidingAccesses, LossCause, SourceIntervals, Time, ValueClasses};
 use std::alloc::{AllocError, Global};
 use total_tables::put;
@@ -42,8 +42,12 @@ const BY_THE_ORDER: LossCause = LossCause {
 /// For each operation whether it writes.
 fn writers_of(alloc: Global, log: &NumberedLog) -> Result<Vec<bool>, AllocError> {
     let mut writes = vec![in alloc; false; log.count() as usize]?;
-    for number in 0..log.count() {
-        put(writes.as_mut_slice(), number, log.operation(number).writes);
+    for number in log.operation_ids() {
+        put(
+            writes.as_mut_slice(),
+            number.number(),
+            log.operation(number).writes,
+        );
     }
     Ok(writes)
 }
@@ -90,19 +94,19 @@ impl<'a> GivenOrder<'a> {
             self.is_cyclic = true;
             return Ok(());
         }
-        for reader in 0..log.count() {
+        for reader in log.operation_ids() {
             for run in 0..self.sources.intervals(reader) {
                 self.narrow(reader, run)?;
             }
         }
-        for location in 0..log.locations() {
+        for location in log.location_ids() {
             self.narrow_last(location)?;
         }
         Ok(())
     }
 
     /// Takes from the interval the writers that are hidden from the reader or stand after it.
-    fn narrow(&mut self, reader: u32, run: u32) -> Result<(), AllocError> {
+    fn narrow(&mut self, reader: OperationId, run: u32) -> Result<(), AllocError> {
         let low = self.sources.low(reader, run);
         let high = self.sources.high(reader, run);
         let first = self.first_visible(reader, low, high);
@@ -117,7 +121,7 @@ impl<'a> GivenOrder<'a> {
     }
 
     /// The first position of a run, from one up to another, whose writer is not hidden from the reader.
-    fn first_visible(&self, reader: u32, begin: u32, end: u32) -> u32 {
+    fn first_visible(&self, reader: OperationId, begin: u32, end: u32) -> u32 {
         let mut low = begin;
         let mut high = end;
         for _ in 0..32 {
@@ -135,7 +139,7 @@ impl<'a> GivenOrder<'a> {
     }
 
     /// The first position of a run, from one up to another, whose writer stands after the reader.
-    fn first_late(&self, reader: u32, begin: u32, end: u32) -> u32 {
+    fn first_late(&self, reader: OperationId, begin: u32, end: u32) -> u32 {
         let mut low = begin;
         let mut high = end;
         for _ in 0..32 {
@@ -153,7 +157,7 @@ impl<'a> GivenOrder<'a> {
     }
 
     /// Takes from the final value of the location the writers that another one stands after.
-    fn narrow_last(&mut self, location: u32) -> Result<(), AllocError> {
+    fn narrow_last(&mut self, location: LocationId) -> Result<(), AllocError> {
         let reader = self.final_reader(location);
         for run in 0..self.sources.intervals(reader) {
             let low = self.sources.low(reader, run);
@@ -179,12 +183,12 @@ impl<'a> GivenOrder<'a> {
     }
 
     /// The writer at this position.
-    pub fn writer(&self, position: u32) -> u32 {
+    pub fn writer(&self, position: u32) -> OperationId {
         self.classes.writer(position)
     }
 
     /// The number of writers that a look at the sources of the reader goes over.
-    pub fn span(&self, reader: u32) -> u64 {
+    pub fn span(&self, reader: OperationId) -> u64 {
         let mut span: u64 = 0;
         for run in 0..self.sources.intervals(reader) {
             let low = self.sources.low(reader, run);
@@ -201,37 +205,42 @@ impl<'a> GivenOrder<'a> {
 
     /// Returns whether the first operation stands before the second.
     #[inline(always)]
-    pub fn stands_before(&self, first: u32, second: u32) -> bool {
+    pub fn stands_before(&self, first: OperationId, second: OperationId) -> bool {
         self.rows.stands_before(self.log, first, second)
     }
 
     /// The place of the process's first operation that stands after this one.
     #[inline(always)]
-    pub fn after(&self, number: u32, process: u32) -> u32 {
+    pub fn after(&self, number: OperationId, process: ProcessId) -> ProcessPlace {
         self.rows.after(number, process)
     }
 
-    /// The place of the process's last operation that stands before this one, or 0.
+    /// The place of the process's last operation that stands before this one, or `START`.
     #[inline(always)]
-    pub fn before(&self, number: u32, process: u32) -> u32 {
+    pub fn before(&self, number: OperationId, process: ProcessId) -> ProcessPlace {
         self.rows.before(number, process)
     }
 
     /// The place of the process's first writer of the location from this place on, or one behind all.
     #[inline(always)]
-    pub fn next_writer(&self, process: u32, location: u32, place: u32) -> u32 {
+    pub fn next_writer(
+        &self,
+        process: ProcessId,
+        location: LocationId,
+        place: ProcessPlace,
+    ) -> ProcessPlace {
         self.writers.next_of_any(process, location, place)
     }
 
     /// The number of the final value of the location among the readers.
-    pub fn final_reader(&self, location: u32) -> u32 {
-        self.log.count().wrapping_add(location)
+    pub fn final_reader(&self, location: LocationId) -> OperationId {
+        self.log.final_reader(location)
     }
 
     /// A writer of the reader's location that stands between the two operations.
-    pub fn hider(&self, source: u32, reader: u32) -> Option<u32> {
+    pub fn hider(&self, source: OperationId, reader: OperationId) -> Option<OperationId> {
         let location = self.log.operation(reader).location;
-        for process in 0..self.log.processes() {
+        for process in self.log.process_ids() {
             let from = self.after(source, process);
             let to = self.before(reader, process);
             if from <= to {
@@ -245,11 +254,11 @@ impl<'a> GivenOrder<'a> {
     }
 
     /// A writer of the location that stands after this operation.
-    pub fn later_writer(&self, location: u32, source: u32) -> Option<u32> {
-        for process in 0..self.log.processes() {
+    pub fn later_writer(&self, location: LocationId, source: OperationId) -> Option<OperationId> {
+        for process in self.log.process_ids() {
             let from = self.after(source, process);
             let place = self.next_writer(process, location, from);
-            if place <= self.log.length(process) {
+            if place <= self.log.last_place(process) {
                 return Some(self.log.number(process, place));
             }
         }

@@ -1,6 +1,8 @@
 //! A log without the reads that repeat what their process has just seen: they can follow it at once in each schedule, and say nothing new.
 
-use numbered_log::{NOBODY, NumberedLog, NumberedOrigin, NumberedPair, Operation};
+use numbered_log::{
+    NOBODY, NumberedLog, NumberedOrigin, NumberedPair, Operation, OperationId, ProcessPlace,
+};
 use std::alloc::{AllocError, Global};
 use total_tables::{at, put, size};
 
@@ -8,7 +10,7 @@ use total_tables::{at, put, size};
 pub struct ReducedLog {
     pub log: NumberedLog,
     /// For each of its operations its number in the whole.
-    numbers: Vec<u32>,
+    numbers: Vec<OperationId>,
 }
 
 /// Drops both tables, in one call for each exit of a function that owns a log.
@@ -33,25 +35,25 @@ fn value_seen(operation: Operation) -> u64 {
 /// For each operation whether an origin or a pair names it.
 fn named(alloc: Global, log: &NumberedLog) -> Result<Vec<bool>, AllocError> {
     let mut is_named = vec![in alloc; false; log.count() as usize]?;
-    for number in 0..log.count() {
+    for number in log.operation_ids() {
         if let NumberedOrigin::Operation(origin) = log.operation(number).origin {
-            put(is_named.as_mut_slice(), origin, true);
+            put(is_named.as_mut_slice(), origin.number(), true);
         }
     }
     for pair in log.pairs() {
-        put(is_named.as_mut_slice(), pair.first, true);
-        put(is_named.as_mut_slice(), pair.second, true);
+        put(is_named.as_mut_slice(), pair.first.number(), true);
+        put(is_named.as_mut_slice(), pair.second.number(), true);
     }
     Ok(is_named)
 }
 
 /// Returns whether the operation is a plain read of what the one before it in its process has left or read.
-fn repeats(log: &NumberedLog, number: u32) -> bool {
+fn repeats(log: &NumberedLog, number: OperationId) -> bool {
     let operation = log.operation(number);
-    if operation.place <= 1 || !operation.reads || operation.writes {
+    if operation.place <= ProcessPlace::FIRST || !operation.reads || operation.writes {
         return false;
     }
-    let previous = log.operation(number.wrapping_sub(1));
+    let previous = log.operation(number.previous());
     matches!(operation.origin, NumberedOrigin::Any)
         && previous.location == operation.location
         && value_seen(previous) == operation.needed
@@ -65,13 +67,13 @@ impl ReducedLog {
             log: NumberedLog::new(alloc, log.locations())?,
             numbers: Vec::new(alloc),
         };
-        let mut renamed = vec![in alloc; 0; log.count() as usize]?;
-        for process in 0..log.processes() {
-            for place in 1..log.length(process).wrapping_add(1) {
+        let mut renamed = vec![in alloc; OperationId::FIRST; log.count() as usize]?;
+        for process in log.process_ids() {
+            for place in log.places(process) {
                 let number = log.number(process, place);
-                if at(is_named.as_slice(), number, true) || !repeats(log, number) {
-                    let kept = size(reduced.numbers.as_slice());
-                    put(renamed.as_mut_slice(), number, kept);
+                if at(is_named.as_slice(), number.number(), true) || !repeats(log, number) {
+                    let kept = OperationId::new(size(reduced.numbers.as_slice()));
+                    put(renamed.as_mut_slice(), number.number(), kept);
                     reduced.numbers.push(number)?;
                     reduced.log.add_operation(log.operation(number))?;
                 }
@@ -83,21 +85,21 @@ impl ReducedLog {
     }
 
     /// Takes over values, origins and pairs, by the new numbers.
-    fn rename(&mut self, log: &NumberedLog, renamed: &[u32]) -> Result<(), AllocError> {
-        for location in 0..log.locations() {
+    fn rename(&mut self, log: &NumberedLog, renamed: &[OperationId]) -> Result<(), AllocError> {
+        for location in log.location_ids() {
             self.log.set_initial(location, log.initial(location));
             self.log.set_last(location, log.last(location));
         }
-        for number in 0..self.log.count() {
+        for number in self.log.operation_ids() {
             if let NumberedOrigin::Operation(origin) = self.log.operation(number).origin {
-                let kept = at(renamed, origin, origin);
+                let kept = at(renamed, origin.number(), origin);
                 self.log.set_origin(number, NumberedOrigin::Operation(kept));
             }
         }
         for pair in log.pairs() {
             self.log.add_pair(NumberedPair {
-                first: at(renamed, pair.first, pair.first),
-                second: at(renamed, pair.second, pair.second),
+                first: at(renamed, pair.first.number(), pair.first),
+                second: at(renamed, pair.second.number(), pair.second),
                 is_timed: pair.is_timed,
             })?;
         }
@@ -105,10 +107,18 @@ impl ReducedLog {
     }
 
     /// The numbers in the whole of some operations.
-    pub fn in_whole(&self, alloc: Global, operations: &[u32]) -> Result<Vec<u32>, AllocError> {
+    pub fn in_whole(
+        &self,
+        alloc: Global,
+        operations: &[OperationId],
+    ) -> Result<Vec<OperationId>, AllocError> {
         let mut whole = Vec::with_capacity(alloc, operations.len())?;
         for operation in operations {
-            whole.push(at(self.numbers.as_slice(), *operation, 0))?;
+            whole.push(at(
+                self.numbers.as_slice(),
+                operation.number(),
+                OperationId::FIRST,
+            ))?;
         }
         Ok(whole)
     }
@@ -118,16 +128,16 @@ impl ReducedLog {
         &self,
         alloc: Global,
         log: &NumberedLog,
-        operations: &[u32],
-    ) -> Result<Vec<u32>, AllocError> {
+        operations: &[OperationId],
+    ) -> Result<Vec<OperationId>, AllocError> {
         let mut renamed = vec![in alloc; NOBODY; log.count() as usize]?;
-        for number in 0..size(self.numbers.as_slice()) {
-            let whole = at(self.numbers.as_slice(), number, NOBODY);
-            put(renamed.as_mut_slice(), whole, number);
+        for number in OperationId::first(size(self.numbers.as_slice())) {
+            let whole = at(self.numbers.as_slice(), number.number(), NOBODY);
+            put(renamed.as_mut_slice(), whole.number(), number);
         }
         let mut kept = Vec::new(alloc);
         for operation in operations {
-            let number = at(renamed.as_slice(), *operation, NOBODY);
+            let number = at(renamed.as_slice(), operation.number(), NOBODY);
             if number != NOBODY {
                 kept.push(number)?;
             }
@@ -140,18 +150,22 @@ impl ReducedLog {
         &self,
         alloc: Global,
         log: &NumberedLog,
-        schedule: &[u32],
-    ) -> Result<Vec<u32>, AllocError> {
+        schedule: &[OperationId],
+    ) -> Result<Vec<OperationId>, AllocError> {
         let mut whole = Vec::with_capacity(alloc, log.count() as usize)?;
         for operation in schedule {
-            let number = at(self.numbers.as_slice(), *operation, 0);
+            let number = at(
+                self.numbers.as_slice(),
+                operation.number(),
+                OperationId::FIRST,
+            );
             let process = log.operation(number).process;
-            let mut end = log.start(process).wrapping_add(log.length(process));
+            let mut end = log.start(process.next());
             let kept = self.log.operation(*operation);
-            if kept.place < self.log.length(kept.process) {
-                end = at(self.numbers.as_slice(), operation.wrapping_add(1), end);
+            if kept.place < self.log.last_place(kept.process) {
+                end = at(self.numbers.as_slice(), operation.next().number(), end);
             }
-            for following in number..end {
+            for following in number.up_to(end) {
                 whole.push(following)?;
             }
         }

@@ -3,7 +3,10 @@
 //! If this is not the part that is made of the trace, the answer is of no use, and nothing worse.
 
 use crate::given_order::GivenOrder;
-use numbered_log::{Budget, NOBODY, NumberedLog, NumberedOrigin, NumberedPair, Operation};
+use numbered_log::{
+    Budget, LocationId, NOBODY, NumberedLog, NumberedOrigin, NumberedPair, Operation, OperationId,
+    ProcessId, ProcessPlace,
+};
 use std::alloc::{AllocError, Global};
 use total_tables::{at, put, size};
 
@@ -23,25 +26,29 @@ impl Chosen {
 
     /// Returns whether the operation is chosen.
     #[inline(always)]
-    pub fn has(&self, operation: u32) -> bool {
-        at(self.is_chosen.as_slice(), operation, false)
+    pub fn has(&self, operation: OperationId) -> bool {
+        at(self.is_chosen.as_slice(), operation.number(), false)
     }
 
     /// Chooses the operation, or takes it out of the choice.
     #[inline(always)]
-    pub fn set(&mut self, operation: u32, is_chosen: bool) {
-        put(self.is_chosen.as_mut_slice(), operation, is_chosen);
+    pub fn set(&mut self, operation: OperationId, is_chosen: bool) {
+        put(self.is_chosen.as_mut_slice(), operation.number(), is_chosen);
     }
 
     /// Chooses each of the operations, or takes each out of the choice.
-    pub fn set_all(&mut self, operations: &[u32], is_chosen: bool) {
+    pub fn set_all(&mut self, operations: &[OperationId], is_chosen: bool) {
         for operation in operations {
             self.set(*operation, is_chosen);
         }
     }
 
     /// The chosen ones of these operations.
-    pub fn among(&self, alloc: Global, operations: &[u32]) -> Result<Vec<u32>, AllocError> {
+    pub fn among(
+        &self,
+        alloc: Global,
+        operations: &[OperationId],
+    ) -> Result<Vec<OperationId>, AllocError> {
         let mut chosen = Vec::new(alloc);
         for operation in operations {
             if self.has(*operation) {
@@ -52,9 +59,9 @@ impl Chosen {
     }
 
     /// All that are chosen, by rising numbers.
-    pub fn all(&self, alloc: Global) -> Result<Vec<u32>, AllocError> {
+    pub fn all(&self, alloc: Global) -> Result<Vec<OperationId>, AllocError> {
         let mut chosen = Vec::new(alloc);
-        for operation in 0..size(self.is_chosen.as_slice()) {
+        for operation in OperationId::first(size(self.is_chosen.as_slice())) {
             if self.has(operation) {
                 chosen.push(operation)?;
             }
@@ -67,7 +74,7 @@ impl Chosen {
 pub struct LogPart {
     pub log: NumberedLog,
     /// For each operation of the part its number in the whole.
-    pub numbers: Vec<u32>,
+    pub numbers: Vec<OperationId>,
 }
 
 /// Drops each table, in one call for each exit of a function that owns a part.
@@ -82,10 +89,10 @@ impl Drop for LogPart {
 
 /// The numbers in the part, by those in the whole.
 struct Renaming {
-    operations: Vec<u32>,
-    locations: Vec<u32>,
+    operations: Vec<OperationId>,
+    locations: Vec<LocationId>,
     /// The other way round, for locations.
-    old_locations: Vec<u32>,
+    old_locations: Vec<LocationId>,
     /// Whether some operation of the part writes the location, by its number in the part.
     is_written: Vec<bool>,
 }
@@ -107,7 +114,7 @@ impl Drop for Renaming {
 pub fn part_of(
     alloc: Global,
     order: &GivenOrder<'_>,
-    operations: &[u32],
+    operations: &[OperationId],
     chosen: &Chosen,
     budget: &mut Budget,
 ) -> Result<LogPart, AllocError> {
@@ -115,7 +122,7 @@ pub fn part_of(
     budget.spend(steps_of(order, operations));
     let mut renaming = Renaming {
         operations: vec![in alloc; NOBODY; log.count() as usize]?,
-        locations: vec![in alloc; NOBODY; log.locations() as usize]?,
+        locations: vec![in alloc; LocationId::NONE; log.locations() as usize]?,
         old_locations: Vec::new(alloc),
         is_written: Vec::new(alloc),
     };
@@ -134,14 +141,14 @@ pub fn part_of(
 }
 
 /// The number of steps that it takes to make the part of these operations.
-fn steps_of(order: &GivenOrder<'_>, operations: &[u32]) -> u64 {
+fn steps_of(order: &GivenOrder<'_>, operations: &[OperationId]) -> u64 {
     let log = order.log();
     let mut steps = log.count().saturating_add(log.locations()) as u64;
     for number in operations {
         let span = order.span(*number);
         steps = steps.saturating_add(span).saturating_add(1);
     }
-    for location in 0..log.locations() {
+    for location in log.location_ids() {
         let span = order.span(order.final_reader(location));
         steps = steps.saturating_add(span);
     }
@@ -157,32 +164,41 @@ impl Renaming {
     fn number_locations(
         &mut self,
         log: &NumberedLog,
-        operations: &[u32],
+        operations: &[OperationId],
     ) -> Result<(), AllocError> {
         for number in operations {
             let location = log.operation(*number).location;
-            if at(self.locations.as_slice(), location, 0) == NOBODY {
-                let new_number = size(self.old_locations.as_slice());
-                put(self.locations.as_mut_slice(), location, new_number);
+            if at(
+                self.locations.as_slice(),
+                location.number(),
+                LocationId::FIRST,
+            ) == LocationId::NONE
+            {
+                let new_number = LocationId::new(size(self.old_locations.as_slice()));
+                put(self.locations.as_mut_slice(), location.number(), new_number);
                 self.old_locations.push(location)?;
                 self.is_written.push(false)?;
             }
             if log.operation(*number).writes {
-                let new_number = at(self.locations.as_slice(), location, NOBODY);
-                put(self.is_written.as_mut_slice(), new_number, true);
+                let new_number = at(
+                    self.locations.as_slice(),
+                    location.number(),
+                    LocationId::NONE,
+                );
+                put(self.is_written.as_mut_slice(), new_number.number(), true);
             }
         }
         Ok(())
     }
 
     /// The number of the operation in the part, or `NOBODY`.
-    fn operation(&self, number: u32) -> u32 {
-        at(self.operations.as_slice(), number, NOBODY)
+    fn operation(&self, number: OperationId) -> OperationId {
+        at(self.operations.as_slice(), number.number(), NOBODY)
     }
 }
 
 /// Returns whether all possible sources of the reader are chosen.
-pub fn has_all_sources(order: &GivenOrder<'_>, reader: u32, chosen: &Chosen) -> bool {
+pub fn has_all_sources(order: &GivenOrder<'_>, reader: OperationId, chosen: &Chosen) -> bool {
     if !order.sources().is_reader(reader) {
         return false;
     }
@@ -198,7 +214,7 @@ pub fn has_all_sources(order: &GivenOrder<'_>, reader: u32, chosen: &Chosen) -> 
 }
 
 /// Returns whether the reading operation still reads.
-fn keeps_read(order: &GivenOrder<'_>, number: u32, chosen: &Chosen) -> bool {
+fn keeps_read(order: &GivenOrder<'_>, number: OperationId, chosen: &Chosen) -> bool {
     match order.log().operation(number).origin {
         NumberedOrigin::Any => has_all_sources(order, number, chosen),
         NumberedOrigin::Initial => true,
@@ -212,12 +228,16 @@ impl LogPart {
     /// the location is.
     fn set_values(&mut self, order: &GivenOrder<'_>, renaming: &Renaming, chosen: &Chosen) {
         let log = order.log();
-        for location in 0..size(renaming.old_locations.as_slice()) {
-            let old = at(renaming.old_locations.as_slice(), location, 0);
+        for location in LocationId::first(size(renaming.old_locations.as_slice())) {
+            let old = at(
+                renaming.old_locations.as_slice(),
+                location.number(),
+                LocationId::FIRST,
+            );
             self.log.set_initial(location, log.initial(old));
             if log.last(old).is_some()
                 && has_all_sources(order, order.final_reader(old), chosen)
-                && at(renaming.is_written.as_slice(), location, false)
+                && at(renaming.is_written.as_slice(), location.number(), false)
             {
                 self.log.set_last(location, log.last(old));
             }
@@ -229,11 +249,11 @@ impl LogPart {
         &mut self,
         order: &GivenOrder<'_>,
         renaming: &mut Renaming,
-        operations: &[u32],
+        operations: &[OperationId],
         chosen: &Chosen,
     ) -> Result<(), AllocError> {
         let log = order.log();
-        let mut process = log.operation(at(operations, 0, 0)).process;
+        let mut process = log.operation(at(operations, 0, OperationId::FIRST)).process;
         for number in operations {
             let operation = log.operation(*number);
             if operation.process != process && !self.numbers.is_empty() {
@@ -242,11 +262,19 @@ impl LogPart {
             process = operation.process;
             let reads = operation.reads && keeps_read(order, *number, chosen);
             if reads || operation.writes {
-                let new_number = size(self.numbers.as_slice());
-                put(renaming.operations.as_mut_slice(), *number, new_number);
+                let new_number = OperationId::new(size(self.numbers.as_slice()));
+                put(
+                    renaming.operations.as_mut_slice(),
+                    number.number(),
+                    new_number,
+                );
                 self.numbers.push(*number)?;
                 self.log.add_operation(Operation {
-                    location: at(renaming.locations.as_slice(), operation.location, 0),
+                    location: at(
+                        renaming.locations.as_slice(),
+                        operation.location.number(),
+                        LocationId::FIRST,
+                    ),
                     reads,
                     ..operation
                 })?;
@@ -257,7 +285,7 @@ impl LogPart {
 
     /// Names origins by their numbers in the part.
     fn rename_origins(&mut self, renaming: &Renaming) {
-        for number in 0..self.log.count() {
+        for number in self.log.operation_ids() {
             let operation = self.log.operation(number);
             if let NumberedOrigin::Operation(origin) = operation.origin {
                 let mut changed = NumberedOrigin::Any;
@@ -279,16 +307,16 @@ impl LogPart {
         let log = order.log();
         let mut nearest = vec![in alloc; NOBODY; log.count() as usize]?;
         let mut last = NOBODY;
-        for number in 0..log.count() {
-            if log.operation(number).place == 1 {
+        for number in log.operation_ids() {
+            if log.operation(number).place == ProcessPlace::FIRST {
                 last = NOBODY;
             }
             if renaming.operation(number) != NOBODY {
                 last = renaming.operation(number);
             }
-            put(nearest.as_mut_slice(), number, last);
+            put(nearest.as_mut_slice(), number.number(), last);
         }
-        for process in 0..log.processes() {
+        for process in log.process_ids() {
             self.add_pairs_of(order, process, nearest.as_slice())?;
         }
         Ok(())
@@ -298,19 +326,19 @@ impl LogPart {
     fn add_pairs_of(
         &mut self,
         order: &GivenOrder<'_>,
-        process: u32,
-        nearest: &[u32],
+        process: ProcessId,
+        nearest: &[OperationId],
     ) -> Result<(), AllocError> {
         let log = order.log();
         let mut last = NOBODY;
-        for second in 0..self.log.count() {
-            let old = at(self.numbers.as_slice(), second, 0);
-            if self.log.operation(second).place == 1 {
+        for second in self.log.operation_ids() {
+            let old = at(self.numbers.as_slice(), second.number(), OperationId::FIRST);
+            if self.log.operation(second).place == ProcessPlace::FIRST {
                 last = NOBODY;
             }
             let place = order.before(old, process);
-            if place != 0 && log.operation(old).process != process {
-                let first = at(nearest, log.number(process, place), NOBODY);
+            if place != ProcessPlace::START && log.operation(old).process != process {
+                let first = at(nearest, log.number(process, place).number(), NOBODY);
                 if first != NOBODY && (last == NOBODY || first > last) {
                     self.log.add_pair(NumberedPair {
                         first,

@@ -1,7 +1,10 @@
 //! A trace as a log of numbers, and names by number.
 
 use crate::time_pairs::add_times;
-use numbered_log::{NOBODY, NumberedLog, NumberedOrigin, NumberedPair, Operation};
+use numbered_log::{
+    LocationId, NO_NUMBER, NOBODY, NumberedLog, NumberedOrigin, NumberedPair, Operation,
+    OperationId, ProcessId, ProcessPlace,
+};
 use order_certificate::{LogNames, NamedPlace};
 use std::alloc::{AllocError, Global};
 use total_tables::{at, size};
@@ -14,7 +17,7 @@ use trace_semantics::trace::{Process, Trace};
 fn number_in(table: &NameTable<'_>, name: &Name) -> u32 {
     match table.get(name.as_bytes()) {
         Some(number) => (number & 0xffff_ffff) as u32,
-        None => NOBODY,
+        None => NO_NUMBER,
     }
 }
 
@@ -26,6 +29,11 @@ struct Locations<'a> {
 }
 
 impl<'a> Locations<'a> {
+    /// The location of this name.
+    fn number(&self, name: &Name) -> LocationId {
+        LocationId::new(number_in(&self.table, name))
+    }
+
     /// Gives the location a number, unless it has one.
     fn enter(&mut self, name: &'a Name) -> Result<(), AllocError> {
         if self.table.get(name.as_bytes()).is_none() {
@@ -58,7 +66,7 @@ fn locations_of(alloc: Global, trace: &Trace) -> Result<Locations<'_>, AllocErro
 struct Starts<'a> {
     processes: NameTable<'a>,
     /// For each process the number of its first operation.
-    starts: Vec<u32>,
+    starts: Vec<OperationId>,
 }
 
 impl<'a> Starts<'a> {
@@ -67,23 +75,23 @@ impl<'a> Starts<'a> {
             processes: NameTable::new(alloc),
             starts: Vec::new(alloc),
         };
-        let mut start: u32 = 0;
+        let mut start = OperationId::FIRST;
         for process in trace.processes() {
             let number = size(starts.starts.as_slice());
             starts
                 .processes
                 .insert(process.name.as_bytes(), number as u64)?;
             starts.starts.push(start)?;
-            start = start.wrapping_add(size(process.operations.as_slice()));
+            start = start.ahead(size(process.operations.as_slice()));
         }
         Ok(starts)
     }
 
     /// The number of the operation of this name.
-    fn number(&self, name: &OpName) -> u32 {
+    fn number(&self, name: &OpName) -> OperationId {
         let process = number_in(&self.processes, &name.process);
         let start = at(self.starts.as_slice(), process, NOBODY);
-        start.wrapping_add(name.place as u32).wrapping_sub(1)
+        start.at_place(ProcessPlace::new(name.place as u32))
     }
 
     /// Returns whether the trace has an operation of this name.
@@ -106,7 +114,7 @@ impl<'a> Starts<'a> {
     }
 
     /// The operation, without its process and place.
-    fn operation(&self, location: u32, op: &Op) -> Operation {
+    fn operation(&self, location: LocationId, op: &Op) -> Operation {
         let origin = match op {
             Op::Read { origin, .. } => self.origin(origin),
             Op::Write { .. } => NumberedOrigin::Any,
@@ -115,8 +123,8 @@ impl<'a> Starts<'a> {
         let needed = op.value_read();
         let left = op.written_value();
         Operation {
-            process: 0,
-            place: 0,
+            process: ProcessId::FIRST,
+            place: ProcessPlace::START,
             location,
             reads: needed.is_some(),
             writes: left.is_some(),
@@ -163,14 +171,14 @@ fn fill(
     starts: &Starts<'_>,
 ) -> Result<(), AllocError> {
     for value in trace.initial() {
-        log.set_initial(number_in(&locations.table, &value.0), Some(value.1));
+        log.set_initial(locations.number(&value.0), Some(value.1));
     }
     for value in trace.final_values() {
-        log.set_last(number_in(&locations.table, &value.0), Some(value.1));
+        log.set_last(locations.number(&value.0), Some(value.1));
     }
     for process in trace.processes() {
         for op in process.operations.as_slice() {
-            let location = number_in(&locations.table, op.location());
+            let location = locations.number(op.location());
             log.add_operation(starts.operation(location, op))?;
         }
         log.end_process()?;
@@ -188,10 +196,10 @@ fn fill(
 }
 
 /// The name of an operation of this process.
-fn name_at(alloc: Global, process: &Process, place: u32) -> Result<OpName, AllocError> {
+fn name_at(alloc: Global, process: &Process, place: ProcessPlace) -> Result<OpName, AllocError> {
     Ok(OpName {
         process: Name::copy_of(alloc, process.name.as_bytes())?,
-        place,
+        place: place.number(),
     })
 }
 
@@ -200,13 +208,13 @@ pub fn names_of(
     alloc: Global,
     trace: &Trace,
     log: &NumberedLog,
-    operations: &[u32],
+    operations: &[OperationId],
 ) -> Result<Vec<OpName>, AllocError> {
     let mut names = Vec::with_capacity(alloc, operations.len())?;
     let processes = trace.processes();
     for number in operations {
         let operation = log.operation(*number);
-        let process = operation.process as usize;
+        let process = operation.process.number() as usize;
         if process < processes.len() {
             names.push(name_at(alloc, &processes[process], operation.place)?)?;
         }
@@ -219,7 +227,7 @@ pub fn numbers_of_names(
     alloc: Global,
     trace: &Trace,
     names: &[OpName],
-) -> Result<Vec<u32>, AllocError> {
+) -> Result<Vec<OperationId>, AllocError> {
     let mut numbers = Vec::new(alloc);
     let starts = Starts::of(alloc, trace)?;
     for name in names {
@@ -235,7 +243,7 @@ pub fn log_names<'a>(
     alloc: Global,
     trace: &'a Trace,
     log: &NumberedLog,
-    operations: &[u32],
+    operations: &[OperationId],
 ) -> Result<LogNames<'a>, AllocError> {
     let locations = locations_of(alloc, trace)?;
     let mut names = LogNames {
@@ -268,7 +276,7 @@ fn add_location<'a>(
     locations: &Locations<'_>,
     name: &'a Name,
 ) -> Result<(), AllocError> {
-    if number_in(&locations.table, name) == size(names.locations.as_slice()) {
+    if locations.number(name).number() == size(names.locations.as_slice()) {
         names.locations.push(name.as_bytes())?;
     }
     Ok(())

@@ -3,7 +3,7 @@
 use crate::contradiction::{contradicting, is_refuted};
 use crate::given_order::GivenOrder;
 use crate::part::{Chosen, LogPart, has_all_sources, part_of};
-use numbered_log::{Budget, NumberedOrigin};
+use numbered_log::{Budget, LocationId, NumberedOrigin, OperationId, ProcessId, ProcessPlace};
 use order_propagation::Propagation;
 use schedule_search::is_refuted_by_walk;
 use std::alloc::{AllocError, Global};
@@ -15,7 +15,7 @@ pub struct Core<'a> {
     alloc: Global,
     /// The order that program order and pairs force on the whole.
     forced: &'a GivenOrder<'a>,
-    operations: Vec<u32>,
+    operations: Vec<OperationId>,
     chosen: Chosen,
     /// Whether a part that saturation does not refute is walked over.
     walks: bool,
@@ -29,7 +29,7 @@ impl<'a> Core<'a> {
     pub fn new(
         alloc: Global,
         forced: &'a GivenOrder<'a>,
-        operations: Vec<u32>,
+        operations: Vec<OperationId>,
     ) -> Result<Core<'a>, AllocError> {
         let mut chosen = Chosen::new(alloc, forced.log().count(), false)?;
         chosen.set_all(operations.as_slice(), true);
@@ -43,7 +43,7 @@ impl<'a> Core<'a> {
     }
 
     /// The operations, by rising numbers.
-    pub fn operations(&self) -> &[u32] {
+    pub fn operations(&self) -> &[OperationId] {
         self.operations.as_slice()
     }
 
@@ -88,12 +88,12 @@ impl<'a> Core<'a> {
             let looked = before.saturating_add(self.forced.log().count());
             budget.spend(looked as u64);
             for place in 0..before {
-                let reader = at(self.operations.as_slice(), place, 0);
+                let reader = at(self.operations.as_slice(), place, OperationId::FIRST);
                 if self.forced.log().operation(reader).reads && !budget.is_spent() {
                     self.close_reader(reader, budget);
                 }
             }
-            for location in 0..self.forced.log().locations() {
+            for location in self.forced.log().location_ids() {
                 budget.spend(1);
                 if !budget.is_spent() && self.forced.log().last(location).is_some() {
                     self.close_last(location, budget);
@@ -110,7 +110,7 @@ impl<'a> Core<'a> {
     /// Adds the possible sources of readers, and then the writers by which others are hidden.
     pub fn complete(&mut self, budget: &mut Budget) -> Result<(), AllocError> {
         for place in 0..self.count() {
-            let reader = at(self.operations.as_slice(), place, 0);
+            let reader = at(self.operations.as_slice(), place, OperationId::FIRST);
             if self.forced.log().operation(reader).reads && !budget.is_spent() {
                 budget.spend(self.forced.span(reader));
                 self.add_sources(reader);
@@ -121,7 +121,7 @@ impl<'a> Core<'a> {
     }
 
     /// Adds the possible sources of the reader.
-    fn add_sources(&mut self, reader: u32) {
+    fn add_sources(&mut self, reader: OperationId) {
         let forced = self.forced;
         for run in 0..forced.sources().intervals(reader) {
             let low = forced.sources().low(reader, run);
@@ -136,10 +136,10 @@ impl<'a> Core<'a> {
     pub fn add_writers(&mut self, budget: &mut Budget) -> Result<(), AllocError> {
         let log = self.forced.log();
         for place in 0..self.count() {
-            let reader = log.operation(at(self.operations.as_slice(), place, 0));
+            let reader = log.operation(at(self.operations.as_slice(), place, OperationId::FIRST));
             if reader.reads && !budget.is_spent() {
                 budget.spend(log.count() as u64);
-                for number in 0..log.count() {
+                for number in log.operation_ids() {
                     let writer = log.operation(number);
                     if writer.writes
                         && writer.location == reader.location
@@ -158,7 +158,7 @@ impl<'a> Core<'a> {
     }
 
     /// Adds the origin of the reader, or writers that hide others from it.
-    fn close_reader(&mut self, reader: u32, budget: &mut Budget) {
+    fn close_reader(&mut self, reader: OperationId, budget: &mut Budget) {
         let operation = self.forced.log().operation(reader);
         if self.forced.log().initial(operation.location) == Some(operation.needed) {
             self.hide_initial(reader, budget);
@@ -174,7 +174,7 @@ impl<'a> Core<'a> {
                 budget.spend(span.saturating_add(self.count() as u64));
                 if has_all_sources(self.forced, reader, &self.chosen) {
                     for place in 0..self.count() {
-                        let writer = at(self.operations.as_slice(), place, 0);
+                        let writer = at(self.operations.as_slice(), place, OperationId::FIRST);
                         let source = self.forced.log().operation(writer);
                         if source.writes
                             && source.location == operation.location
@@ -190,14 +190,14 @@ impl<'a> Core<'a> {
     }
 
     /// Adds a writer that hides this one from the reader, if there is one and none is chosen.
-    fn hide(&mut self, reader: u32, writer: u32, budget: &mut Budget) {
+    fn hide(&mut self, reader: OperationId, writer: OperationId, budget: &mut Budget) {
         let forced = self.forced;
         budget.spend(forced.log().processes() as u64);
         if forced.stands_before(reader, writer) {
             return;
         }
         let location = forced.log().operation(reader).location;
-        for process in 0..forced.log().processes() {
+        for process in forced.log().process_ids() {
             let from = forced.after(writer, process);
             let to = forced.before(reader, process);
             if self.has_chosen_writer(process, location, from, to, budget) {
@@ -210,17 +210,17 @@ impl<'a> Core<'a> {
     }
 
     /// Adds a writer that hides the initial value from the reader, if there is one and none is chosen.
-    fn hide_initial(&mut self, reader: u32, budget: &mut Budget) {
+    fn hide_initial(&mut self, reader: OperationId, budget: &mut Budget) {
         let forced = self.forced;
         let location = forced.log().operation(reader).location;
         let mut found = None;
         budget.spend(forced.log().processes() as u64);
-        for process in 0..forced.log().processes() {
+        for process in forced.log().process_ids() {
             let to = forced.before(reader, process);
-            if self.has_chosen_writer(process, location, 1, to, budget) {
+            if self.has_chosen_writer(process, location, ProcessPlace::FIRST, to, budget) {
                 return;
             }
-            let place = forced.next_writer(process, location, 1);
+            let place = forced.next_writer(process, location, ProcessPlace::FIRST);
             if place <= to {
                 found = Some(forced.log().number(process, place));
             }
@@ -233,10 +233,10 @@ impl<'a> Core<'a> {
     /// Returns whether a writer of the location in the process, from one place up to another, is chosen.
     fn has_chosen_writer(
         &self,
-        process: u32,
-        location: u32,
-        from: u32,
-        to: u32,
+        process: ProcessId,
+        location: LocationId,
+        from: ProcessPlace,
+        to: ProcessPlace,
         budget: &mut Budget,
     ) -> bool {
         let log = self.forced.log();
@@ -247,19 +247,19 @@ impl<'a> Core<'a> {
                 break;
             }
             place = self.forced.next_writer(process, location, place);
-            if place > to || place > log.length(process) {
+            if place > to || place > log.last_place(process) {
                 break;
             }
             if self.chosen.has(log.number(process, place)) {
                 return true;
             }
-            place = place.wrapping_add(1);
+            place = place.next();
         }
         false
     }
 
     /// Adds writers that come after others which may not be the last one of the location.
-    fn close_last(&mut self, location: u32, budget: &mut Budget) {
+    fn close_last(&mut self, location: LocationId, budget: &mut Budget) {
         let forced = self.forced;
         let log = forced.log();
         let span = forced.span(forced.final_reader(location));
@@ -268,7 +268,7 @@ impl<'a> Core<'a> {
             return;
         }
         for place in 0..self.count() {
-            let writer = at(self.operations.as_slice(), place, 0);
+            let writer = at(self.operations.as_slice(), place, OperationId::FIRST);
             let source = log.operation(writer);
             if source.writes
                 && source.location == location
@@ -283,12 +283,17 @@ impl<'a> Core<'a> {
     }
 
     /// Returns whether a writer of the location that stands after this one is chosen.
-    fn has_chosen_after(&self, writer: u32, location: u32, budget: &mut Budget) -> bool {
+    fn has_chosen_after(
+        &self,
+        writer: OperationId,
+        location: LocationId,
+        budget: &mut Budget,
+    ) -> bool {
         let log = self.forced.log();
         budget.spend(log.processes() as u64);
-        for process in 0..log.processes() {
+        for process in log.process_ids() {
             let from = self.forced.after(writer, process);
-            if self.has_chosen_writer(process, location, from, log.length(process), budget) {
+            if self.has_chosen_writer(process, location, from, log.last_place(process), budget) {
                 return true;
             }
         }
@@ -343,7 +348,11 @@ impl<'a> Core<'a> {
     }
 
     /// Leaves out those of these operations that are in the core, if what is left is still refuted.
-    fn leave_out(&mut self, operations: &[u32], budget: &mut Budget) -> Result<(), AllocError> {
+    fn leave_out(
+        &mut self,
+        operations: &[OperationId],
+        budget: &mut Budget,
+    ) -> Result<(), AllocError> {
         let group = self.chosen.among(self.alloc, operations)?;
         if group.is_empty() || budget.is_spent() {
             return Ok(());
@@ -360,7 +369,7 @@ impl<'a> Core<'a> {
     }
 
     /// The operations of the process.
-    fn of_process(&self, process: u32) -> Result<Vec<u32>, AllocError> {
+    fn of_process(&self, process: ProcessId) -> Result<Vec<OperationId>, AllocError> {
         let mut group = Vec::new(self.alloc);
         for operation in &self.operations {
             if self.forced.log().operation(*operation).process == process {
@@ -371,7 +380,7 @@ impl<'a> Core<'a> {
     }
 
     /// The operations on the location.
-    fn on_location(&self, location: u32) -> Result<Vec<u32>, AllocError> {
+    fn on_location(&self, location: LocationId) -> Result<Vec<OperationId>, AllocError> {
         let mut group = Vec::new(self.alloc);
         for operation in &self.operations {
             if self.forced.log().operation(*operation).location == location {
@@ -387,7 +396,7 @@ impl<'a> Core<'a> {
     pub fn shrink(&mut self, budget: &mut Budget) -> Result<(), AllocError> {
         self.refine(budget)?;
         let log = self.forced.log();
-        for process in 0..log.processes() {
+        for process in log.process_ids() {
             budget.spend(self.count() as u64);
             if budget.is_spent() {
                 return Ok(());
@@ -395,7 +404,7 @@ impl<'a> Core<'a> {
             let group = self.of_process(process)?;
             self.leave_out(group.as_slice(), budget)?;
         }
-        for location in 0..log.locations() {
+        for location in log.location_ids() {
             budget.spend(self.count() as u64);
             if budget.is_spent() {
                 return Ok(());

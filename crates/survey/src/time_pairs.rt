@@ -2,7 +2,7 @@
 //!
 //! What follows from other pairs is left out, so that most operations have few.
 
-use numbered_log::{NumberedLog, NumberedPair};
+use numbered_log::{NumberedLog, NumberedPair, OperationId, ProcessId, ProcessPlace};
 use std::alloc::{AllocError, Global};
 use total_tables::{at, put, size};
 use trace_semantics::trace::Trace;
@@ -43,7 +43,7 @@ impl OperationTimes {
             has_any: false,
         };
         for process in trace.processes() {
-            let begin = size(times.starts.as_slice());
+            let begin = OperationId::new(size(times.starts.as_slice()));
             let mut latest = 0;
             for op in process.operations.as_slice() {
                 let mut start = 0;
@@ -64,30 +64,36 @@ impl OperationTimes {
     }
 
     /// Makes least ends of the ends from this operation on.
-    fn lower_ends(&mut self, begin: u32) {
+    fn lower_ends(&mut self, begin: OperationId) {
         let mut least = u64::MAX;
-        for number in (begin..size(self.least_ends.as_slice())).rev() {
-            least = least.min(self.least_end(number));
+        for number in (begin.number()..size(self.least_ends.as_slice())).rev() {
+            least = least.min(self.least_end(OperationId::new(number)));
             put(self.least_ends.as_mut_slice(), number, least);
         }
     }
 
-    fn start(&self, number: u32) -> u64 {
-        at(self.starts.as_slice(), number, 0)
+    fn start(&self, number: OperationId) -> u64 {
+        at(self.starts.as_slice(), number.number(), 0)
     }
 
-    fn least_end(&self, number: u32) -> u64 {
-        at(self.least_ends.as_slice(), number, u64::MAX)
+    fn least_end(&self, number: OperationId) -> u64 {
+        at(self.least_ends.as_slice(), number.number(), u64::MAX)
     }
 
     /// Returns whether the operation, or one behind it in its process, had ended before this time.
-    fn had_ended(&self, number: u32, start: u64) -> bool {
+    fn had_ended(&self, number: OperationId, start: u64) -> bool {
         self.least_end(number) < start
     }
 
     /// The place of the last operation of the process that had ended before this time, if it is behind the place that is known, else that one.
-    fn last_ended(&self, log: &NumberedLog, process: u32, known: u32, start: u64) -> u32 {
-        let mut low = known;
+    fn last_ended(
+        &self,
+        log: &NumberedLog,
+        process: ProcessId,
+        known: ProcessPlace,
+        start: u64,
+    ) -> ProcessPlace {
+        let mut low = known.number();
         let mut high = log.length(process);
         let mut step: u32 = 1;
         for _ in 0..32 {
@@ -95,7 +101,7 @@ impl OperationTimes {
             if place > high {
                 break;
             }
-            if !self.had_ended(log.number(process, place), start) {
+            if !self.had_ended(log.number(process, ProcessPlace::new(place)), start) {
                 high = place.wrapping_sub(1);
                 break;
             }
@@ -107,22 +113,22 @@ impl OperationTimes {
                 break;
             }
             let middle = high.wrapping_sub(high.wrapping_sub(low) / 2);
-            if self.had_ended(log.number(process, middle), start) {
+            if self.had_ended(log.number(process, ProcessPlace::new(middle)), start) {
                 low = middle;
             } else {
                 high = middle.wrapping_sub(1);
             }
         }
-        low
+        ProcessPlace::new(low)
     }
 }
 
 /// What is known at an operation: the last operations that had ended before it or before an earlier one of its process began.
 struct EndedFronts {
-    /// For each process a place, or 0.
-    fronts: Vec<u32>,
+    /// For each process a place, or `START`.
+    fronts: Vec<ProcessPlace>,
     /// The operations that are news at the operation at hand.
-    news: Vec<u32>,
+    news: Vec<OperationId>,
     /// A time before which all that had ended stands before something that stands before the operation at hand.
     covered: u64,
 }
@@ -141,7 +147,7 @@ impl Drop for EndedFronts {
 impl EndedFronts {
     fn new(alloc: Global, log: &NumberedLog) -> Result<EndedFronts, AllocError> {
         Ok(EndedFronts {
-            fronts: vec![in alloc; 0; log.processes() as usize]?,
+            fronts: vec![in alloc; ProcessPlace::START; log.processes() as usize]?,
             news: Vec::new(alloc),
             covered: 0,
         })
@@ -150,7 +156,7 @@ impl EndedFronts {
     /// Begins a process.
     fn clear(&mut self) {
         for process in 0..size(self.fronts.as_slice()) {
-            put(self.fronts.as_mut_slice(), process, 0);
+            put(self.fronts.as_mut_slice(), process, ProcessPlace::START);
         }
         self.covered = 0;
     }
@@ -160,22 +166,26 @@ impl EndedFronts {
         &mut self,
         log: &NumberedLog,
         times: &OperationTimes,
-        number: u32,
+        number: OperationId,
     ) -> Result<(), AllocError> {
         let operation = log.operation(number);
         let start = times.start(number);
         self.news.clear();
-        for process in 0..log.processes() {
-            let mut known = at(self.fronts.as_slice(), process, 0);
+        for process in log.process_ids() {
+            let mut known = at(
+                self.fronts.as_slice(),
+                process.number(),
+                ProcessPlace::START,
+            );
             if process == operation.process {
-                known = known.max(operation.place);
+                known = known.later(operation.place);
             }
             let last = times.last_ended(log, process, known, start);
             if last > known {
                 self.news.push(log.number(process, last))?;
-                put(self.fronts.as_mut_slice(), process, last);
+                put(self.fronts.as_mut_slice(), process.number(), last);
             }
-            if last != 0 && process != operation.process && times.rise {
+            if last != ProcessPlace::START && process != operation.process && times.rise {
                 self.covered = self.covered.max(times.start(log.number(process, last)));
             }
         }
@@ -188,7 +198,7 @@ impl EndedFronts {
         &mut self,
         log: &mut NumberedLog,
         times: &OperationTimes,
-        second: u32,
+        second: OperationId,
     ) -> Result<(), AllocError> {
         for first in self.news.as_slice() {
             if times.least_end(*first) >= self.covered && log.pairs().len() < MOST_PAIRS {
@@ -217,8 +227,8 @@ pub(crate) fn add_times(
         return Ok(());
     }
     let mut fronts = EndedFronts::new(alloc, log)?;
-    for number in 0..log.count() {
-        if log.operation(number).place == 1 {
+    for number in log.operation_ids() {
+        if log.operation(number).place == ProcessPlace::FIRST {
             fronts.clear();
         }
         if times.start(number) != 0 {

@@ -6,4 +6,6 @@ mod derivations;
 mod formulas;
 mod guides;
 mod layouts;
+mod matching_hints;
+mod said_clauses;
 mod solver_texts;

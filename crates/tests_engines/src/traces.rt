@@ -35,6 +35,15 @@ pub const STORE_BUFFERING_BESIDE: &str =
 pub const THREE_WRITERS: &str =
     "vsc 1\ninit x 0\nproc P\nW x 1\nW x 2\nR x 4\nproc Q\nW x 3\nW x 4\nR x 2\nproc S\nW x 5\nW x 6\n";
 
+/// Updates and a read that have a choice, a read and a final value that have none, a final value from the start, one that two writers leave, and a
+/// `before` line. The five operations have the order variables 1 to 10.
+pub const ALL_FAMILIES: &str =
+    "vsc 2\ninit b 3\ninit x 0\nfinal a 7\nfinal b 3\nfinal x 1\nproc P\nW x 1\nU x 1 2\nproc Q\nR y 4\nU x 2 1\nproc S\nR x 1\nbefore P 1 S 1\n";
+
+/// Three updates, of which each may read the initial value or from another one, and any may be the last.
+pub const UPDATES: &str =
+    "vsc 1\ninit x 0\nfinal x 0\nproc P\nU x 0 0\nproc Q\nU x 0 0\nproc S\nU x 0 0\n";
+
 /// The trace of this text, reduced.
 pub fn reduced_of(rt: &impl Abort, alloc: Global, text: &str) -> Reduced {
     let trace = ample(rt, read_trace(alloc, text.as_bytes()));

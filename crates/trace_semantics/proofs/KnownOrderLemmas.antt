@@ -1,18 +1,18 @@
 -- What follows from times.
 use Rattle.std.proofs.Common.{◌≡◌, ◌<◌, ◌≤◌, ℕ, zero, suc, List, [], ◌∷◌, ◌++◌, Bool, true, false, cond, refl, ap, sym, ◌∙◌, arith, inl, inr, append-nil}
-use Rattle.std.specs.Prelude.{◌↔◌, Option, Some, None, IsSome}
-use Rattle.std.specs.List.{All, Contains, filter}
+use Rattle.std.specs.Prelude.{◌↔◌, Option, Some, None, IsSome, is_some}
+use Rattle.std.specs.List.{All, Contains, filter, list_any}
 use Rattle.std.specs.Option.{option_and_then}
 use Rattle.std.specs.Str.{bytes_eq}
-use Rattle.std.proofs.lemmas.Bool.{ltb-true, lt-ltb, le-ltb}
-use Rattle.std.proofs.lemmas.List.Elements.{All-contains}
+use Rattle.std.proofs.lemmas.Bool.{ltb-true, lt-ltb, le-ltb, or_parts}
+use Rattle.std.proofs.lemmas.List.Elements.{All-nil, All-cons, All-contains}
 use Rattle.std.proofs.lemmas.Option.{option_and_then_some, slice_get_within, get_or_from_slice_get}
 use Rattle.trace_semantics.specs.declared.operation.Op.{Op}
 use Rattle.trace_semantics.specs.declared.operation.OpName.{OpName}
 use Rattle.trace_semantics.specs.declared.operation.Span.{Span}
 use Rattle.trace_semantics.specs.declared.trace.Process.{Process}
 use Rattle.trace_semantics.specs.Judgement.{paired_before, put_before}
-use Rattle.trace_semantics.specs.KnownOrder.{span_at, ends_before, ended_before, IsKnownBefore, HasNoTimes}
+use Rattle.trace_semantics.specs.KnownOrder.{span_at, ends_before, ended_before, IsKnownBefore, has_span, says_times, HasNoTimes}
 use Rattle.trace_semantics.specs.Operation.{span_of}
 use Rattle.trace_semantics.specs.Trace.{TraceValue, IsTrace, at_place, process_named, operation_at, operation_names, IsSpan}
 use Rattle.trace_semantics.proofs.ElementLemmas.{found}
@@ -70,6 +70,26 @@ of_each P t none all n = of_operation P none (operation_at t n) known
 -- the span of a name ends no earlier than it starts
 pub span_of_name : (t : TraceValue) → IsTrace t → (n : OpName) → IsSpan (span_at t n)
 span_of_name t ok n = of_each IsSpan t tt ok.spans n
+
+unsaid : (o : Option Span) → is_some o ≡ false → o ≡ None
+unsaid None e = refl
+unsaid (Some span) e = absurd (cc)
+
+no_spans : (ops : List Op) → list_any has_span ops ≡ false → All (λ (op : Op). span_of op ≡ None) ops
+no_spans [] e = All-nil _
+no_spans (op ∷ ops) e =
+    let parts = or_parts (has_span op) (list_any has_span ops) e in
+    All-cons (λ (o : Op). span_of o ≡ None) op ops (unsaid (span_of op) parts.0) (no_spans ops parts.1)
+
+none_timed : (ps : List Process) → list_any (λ (p : Process). list_any has_span p.operations) ps ≡ false → All (λ (p : Process). All (λ (op : Op). span_of op ≡ None) p.operations) ps
+none_timed [] e = All-nil _
+none_timed (p ∷ ps) e =
+    let parts = or_parts (list_any has_span p.operations) (list_any (λ (q : Process). list_any has_span q.operations) ps) e in
+    All-cons (λ (q : Process). All (λ (op : Op). span_of op ≡ None) q.operations) p ps (no_spans p.operations parts.0) (none_timed ps parts.1)
+
+-- a trace that says no times has none
+pub untimed_if_unsaid : (t : TraceValue) → says_times t ≡ false → HasNoTimes t
+untimed_if_unsaid t e = none_timed t.processes e
 
 pub no_span : (t : TraceValue) → HasNoTimes t → (n : OpName) → span_at t n ≡ None
 no_span t untimed n = of_each (λ s. s ≡ None) t refl untimed n

@@ -1,5 +1,5 @@
 -- The limits of a trace's schedules have room for all its operations.
-use Rattle.std.proofs.Common.{◌≡◌, ◌≤◌, Bool, true, false, refl, arith}
+use Rattle.std.proofs.Common.{◌≡◌, ◌≤◌, Bool, true, false, refl}
 use Rattle.std.specs.Prelude.{nat_le, if◌then◌else◌}
 use Rattle.std.proofs.lemmas.Bool.{leb-true}
 use Rattle.trace_semantics.specs.declared.limits.Limits.TheVariants.{Small, Large}

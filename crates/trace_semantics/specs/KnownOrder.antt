@@ -1,6 +1,6 @@
 -- What a trace says of the order of its operations.
-use Rattle.std.specs.Prelude.{◌≡◌, ◌⊎◌, true, false, nat_lt, Bool, Option, Some, None}
-use Rattle.std.specs.List.{All, Contains}
+use Rattle.std.specs.Prelude.{◌≡◌, ◌⊎◌, true, false, nat_lt, Bool, Option, Some, None, is_some}
+use Rattle.std.specs.List.{All, Contains, list_any}
 use Rattle.std.specs.Option.{option_and_then}
 use Rattle.trace_semantics.specs.declared.operation.Op.{Op}
 use Rattle.trace_semantics.specs.declared.operation.OpName.{OpName}
@@ -26,6 +26,14 @@ ended_before t m n = ends_before (span_at t m) (span_at t n)
 -- the trace says that m stands before n: by a before pair, or by times
 abbrev pub IsKnownBefore : TraceValue → OpName → OpName → Type 0
 IsKnownBefore t m n = Contains t.before (m, n) ⊎ (ended_before t m n ≡ true)
+
+-- an operation says when it was under way
+abbrev pub has_span : Op → Bool
+has_span op = is_some (span_of op)
+
+-- some operation does
+abbrev pub says_times : TraceValue → Bool
+says_times t = list_any (λ (p : Process). list_any has_span p.operations) t.processes
 
 -- no operation has a span
 abbrev pub HasNoTimes : TraceValue → Type 0

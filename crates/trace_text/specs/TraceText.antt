@@ -1,5 +1,5 @@
 -- What a trace text spells.
-use Rattle.std.specs.Prelude.{◌≡◌, ◌≤◌, ◌↔◌, ℕ, Bool, true, false, not, List, [], ◌∷◌, ◌++◌, length, map, Option, Some, None, is_some, codes, ◌||◌, ◌==◌, nat_lt}
+use Rattle.std.specs.Prelude.{◌≡◌, ◌≤◌, ◌↔◌, ℕ, Bool, true, false, not, List, [], ◌∷◌, ◌++◌, length, map, Option, Some, None, codes, ◌||◌, ◌==◌, nat_lt}
 use Rattle.std.specs.Fmt.{decimal}
 use Rattle.std.specs.List.{filter, flat_map, list_any, Contains}
 use Rattle.std.specs.List.Sorted.{IsPermutation}
@@ -15,8 +15,8 @@ use Rattle.trace_semantics.specs.declared.trace.Process.{Process}
 use Rattle.text_lines.specs.Kept.{kept}
 use Rattle.trace_semantics.specs.declared.limits.Limits.{Limits}
 use Rattle.trace_semantics.specs.declared.limits.Limits.TheVariants.{Small}
+use Rattle.trace_semantics.specs.KnownOrder.{says_times}
 use Rattle.trace_semantics.specs.Limits.{max_operations, max_locations, max_pairs}
-use Rattle.trace_semantics.specs.Operation.{span_of}
 use Rattle.trace_semantics.specs.Trace.{TraceValue, operation_count, location_count}
 use Rattle.trace_text.specs.declared.version.Version.{Version}
 use Rattle.trace_text.specs.declared.version.Version.TheVariants.{One, Two, Three}
@@ -82,14 +82,6 @@ has_origin (Read location value origin span) = true
 has_origin (Write location value span) = false
 has_origin (Update location read left Any span) = false
 has_origin (Update location read left origin span) = true
-
--- an operation says when it was under way
-abbrev pub has_span : Op → Bool
-has_span op = is_some (span_of op)
-
--- some operation does
-abbrev pub says_times : TraceValue → Bool
-says_times t = list_any (λ (p : Process). list_any has_span p.operations) t.processes
 
 -- the trace says what version 1 has no line for
 abbrev pub needs_version_2 : TraceValue → Bool

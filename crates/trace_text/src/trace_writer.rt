@@ -12,6 +12,7 @@ use crate::location_count::has_many_locations;
 use crate::version::Version;
 use itoa::Buffer;
 use std::alloc::{AllocError, Global};
+use trace_semantics::known_order::says_times;
 use trace_semantics::limits::Limits;
 use trace_semantics::name::Name;
 use trace_semantics::operation::{Op, OpName, Origin, Span};
@@ -60,30 +61,11 @@ fn wants_version_2(trace: &Trace) -> bool
     !trace.before().is_empty() || any_says_origin(trace.processes())
 }
 
-fn says_span(op: &Op) -> bool
-    ensures { result ≡ spelled.has_span op.now }
-{
-    op.span().is_some()
-}
-
-fn process_says_span(process: &Process) -> bool
-    ensures { result ≡ list_any spelled.has_span process.now.operations }
-{
-    process.operations.as_slice().iter().any(|op| says_span(op))
-}
-
-/// Returns whether it is said of an operation when it was under way.
-fn any_says_span(processes: &[Process]) -> bool
-    ensures { result ≡ list_any (λ (p : Process). list_any spelled.has_span p.operations) processes.now }
-{
-    processes.iter().any(|process| process_says_span(process))
-}
-
 /// Returns whether the trace says times, or is larger than versions 1 and 2 have room for.
 fn wants_version_3(alloc: Global, trace: &Trace) -> Result<bool, AllocError>
     ensures { IfOk result (λ wants. wants ≡ spelled.needs_version_3 trace.now) }
 {
-    if any_says_span(trace.processes()) {
+    if says_times(trace) {
         return Ok(true);
     }
     if count_operations(trace) > Limits::Small.max_operations() {

@@ -1,14 +1,13 @@
 //! The pairs of operations, by number, of which a trace says that the first stands before the second.
 
-ghost use Rattle.std.specs.Prelude.{◌≡◌, ◌<◌, ◌++◌, ◌==◌, ℕ, map, None, false, IfOk, OnOk};
+ghost use Rattle.std.specs.Prelude.{◌≡◌, ◌++◌, ◌==◌, ℕ, map, IfOk, OnOk};
 ghost use Rattle.std.specs.List.{filter, list_any};
-ghost use Rattle.trace_semantics.specs.Trace.{operation_count};
 ghost use Rattle.var_layout.specs.KnownPairs as known;
 
 use crate::before_numbers::before_numbers;
 use crate::numbering::Numbering;
 use std::alloc::{AllocError, Global};
-use trace_semantics::known_order::ends_before;
+use trace_semantics::known_order::{ends_before, says_times};
 use trace_semantics::operation::Span;
 use trace_semantics::trace::Trace;
 
@@ -27,18 +26,6 @@ fn is_timed(numbering: &Numbering<'_>, i: usize, j: usize) -> bool
     ensures { result ≡ known.is_timed numbering.now i j }
 {
     ends_before(span_at(numbering, i), span_at(numbering, j)) && !numbering.in_program_order(i, j)
-}
-
-/// Returns whether an operation has times.
-fn has_times(numbering: &Numbering<'_>) -> bool
-    ensures { result ≡ false → (i : ℕ) → i < operation_count numbering.now → known.span_at_number numbering.now i ≡ None }
-{
-    for i in 0..numbering.count() {
-        if span_at(numbering, i).is_some() {
-            return true;
-        }
-    }
-    false
 }
 
 /// Returns whether i is the first of the pair.
@@ -122,7 +109,7 @@ pub(crate) fn known_pairs(
 {
     numbering.recall_invariant();
     let before = before_numbers(alloc, numbering, trace.before())?;
-    if has_times(numbering) {
+    if says_times(trace) {
         said_pairs(alloc, numbering, before.as_slice())
     } else {
         Ok(before)

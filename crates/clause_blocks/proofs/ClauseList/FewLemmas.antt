@@ -1,20 +1,14 @@
 -- A trace of at most 160 operations has fewer clauses than a header may announce.
-use Rattle.std.proofs.Common.{◌≡◌, ℕ, suc, ◌+◌, ◌*◌, ◌<◌, ◌≤◌, pos, List, [], ◌∷◌, ◌++◌, length, length-append, map, get_or, Bool, true, false, cond, not, eqb, refl, sym, ap, ◌∙◌, arith}
-use Rattle.std.specs.Prelude.{◌≢◌, Option, Some, None, is_some, if◌then◌else◌}
-use Rattle.std.specs.List.{AllPairs, enumerate_from, filter, flat_map}
-use Rattle.std.specs.Option.{option_and_then}
-use Rattle.std.specs.Str.{bytes_eq}
+use Rattle.std.proofs.Common.{◌≡◌, ℕ, suc, ◌+◌, ◌*◌, ◌≤◌, pos, List, [], ◌∷◌, ◌++◌, length, length-append, map, get_or, Bool, true, false, cond, not, eqb, ap, arith}
+use Rattle.std.specs.Prelude.{is_some}
+use Rattle.std.specs.List.{enumerate_from, filter, flat_map}
 use Rattle.std.proofs.lemmas.List.{length-map}
 use Rattle.std.proofs.lemmas.List.Concat.{length-flat_map}
 use Rattle.std.proofs.lemmas.List.FromFn.{length-enumerate_from, length-range_with_len}
 use Rattle.std.proofs.lemmas.List.Sums.{sum_by-le}
 use Rattle.std.proofs.lemmas.Nat.{mul-le}
 use Rattle.text_lines.proofs.ListLemmas.{few_pass}
-use Rattle.trace_semantics.proofs.NameLemmas.{same_bytes}
-use Rattle.trace_semantics.specs.declared.operation.Op.{Op}
-use Rattle.trace_semantics.specs.Operation.{location_of, written_value}
-use Rattle.trace_semantics.specs.Trace.{TraceValue, IsTrace, operation_at, operation_count}
-use Rattle.trace_semantics.specs.ValueAfter.{value_left_at}
+use Rattle.trace_semantics.specs.Trace.{TraceValue, IsTrace, operation_count}
 use Rattle.var_layout.specs.declared.candidate.Candidate.{Candidate}
 use Rattle.var_layout.specs.declared.candidate.Candidate.TheVariants.{InitialValue, Writer}
 use Rattle.var_layout.specs.declared.candidate.ReadsFromChoice.{ReadsFromChoice}
@@ -23,7 +17,7 @@ use Rattle.var_layout.specs.Candidates.{candidates}
 use Rattle.var_layout.specs.ChoiceVariables.{choices, first_choice}
 use Rattle.var_layout.specs.FinalVariables.{final_candidates, final_choices, first_final, is_untouched}
 use Rattle.var_layout.specs.KnownPairs.{is_said, said_after, known_pairs}
-use Rattle.var_layout.specs.Numbers.{in_one_process, left_at, name_at, numbers, others, other_writers, read_at, readers, writers}
+use Rattle.var_layout.specs.Numbers.{in_one_process, numbers, others, other_writers, read_at, readers, writers}
 use Rattle.var_layout.proofs.BoundLemmas.{few_candidates, few_finals, few_leavers, few_others}
 use Rattle.var_layout.proofs.WrittenOnceLemmas.{written_in, none_written, more_written, few_written}
 use Rattle.clause_blocks.specs.Blocks.{before_clauses, clauses_of_final, clauses_of_read, final_clauses, implies, program_order, read_clauses, reads_from, stands_before, transitivity, void_clauses, writes_last}

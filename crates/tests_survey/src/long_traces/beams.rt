@@ -4,7 +4,10 @@ use crate::expectations::{ample, expect};
 use crate::long_traces::drawn_numbers::DrawnNumbers;
 use beam_search::{Beam, BeamEnding, BeamSearch};
 use closed_rows::ClosedRows;
-use numbered_log::{Budget, NumberedLog, NumberedOrigin, Operation};
+use numbered_log::{
+    Budget, LocationId, NOBODY, NumberedLog, NumberedOrigin, Operation, OperationId, ProcessId,
+    ProcessPlace,
+};
 use possible_sources::ValueClasses;
 use std::alloc::{AllocError, Global};
 use total_tables::{at, put, size};
@@ -18,9 +21,9 @@ const VALUES: u64 = 3;
 
 /// An operation of no process, and on the first location.
 const NO_OPERATION: Operation = Operation {
-    process: 0,
-    place: 0,
-    location: 0,
+    process: ProcessId::FIRST,
+    place: ProcessPlace::START,
+    location: LocationId::FIRST,
     reads: false,
     writes: false,
     needed: 0,
@@ -40,13 +43,13 @@ fn beam_of(width: u32) -> Beam {
 
 /// The next operation of a run in which memory holds this. It is taken over.
 fn drawn_operation(random: &mut DrawnNumbers, memory: &mut Vec<u64>) -> Operation {
-    let process = random.small(PROCESSES);
-    let location = random.small(LOCATIONS);
-    let held = at(memory.as_slice(), location, 0);
+    let process = ProcessId::new(random.small(PROCESSES));
+    let location = LocationId::new(random.small(LOCATIONS));
+    let held = at(memory.as_slice(), location.number(), 0);
     let kind = random.below(4);
     let left = random.below(VALUES);
     if kind > 1 {
-        put(memory.as_mut_slice(), location, left);
+        put(memory.as_mut_slice(), location.number(), left);
     }
     Operation {
         process,
@@ -68,7 +71,7 @@ fn drawn_log(alloc: Global, seed: u64, count: u32) -> Result<NumberedLog, AllocE
         run.push(drawn_operation(&mut random, &mut memory))?;
     }
     let mut log = NumberedLog::new(alloc, LOCATIONS)?;
-    for process in 0..PROCESSES {
+    for process in ProcessId::first(PROCESSES) {
         for place in 0..count {
             let operation = at(run.as_slice(), place, NO_OPERATION);
             if operation.process == process {
@@ -77,35 +80,47 @@ fn drawn_log(alloc: Global, seed: u64, count: u32) -> Result<NumberedLog, AllocE
         }
         log.end_process()?;
     }
-    for location in 0..LOCATIONS {
+    for location in LocationId::first(LOCATIONS) {
         log.set_initial(location, Some(0));
-        log.set_last(location, Some(at(memory.as_slice(), location, 0)));
+        log.set_last(location, Some(at(memory.as_slice(), location.number(), 0)));
     }
     Ok(log)
 }
 
 /// Returns whether the operations are all of the log, each reads what its location holds, and the final values are as they have to be.
-fn is_legal(alloc: Global, log: &NumberedLog, schedule: &[u32]) -> Result<bool, AllocError> {
-    let mut fronts = vec![in alloc; 1; log.processes() as usize]?;
+fn is_legal(
+    alloc: Global,
+    log: &NumberedLog,
+    schedule: &[OperationId],
+) -> Result<bool, AllocError> {
+    let mut fronts = vec![in alloc; ProcessPlace::FIRST; log.processes() as usize]?;
     let mut memory = vec![in alloc; 0; log.locations() as usize]?;
     for entry in 0..size(schedule) {
-        let operation = log.operation(at(schedule, entry, u32::MAX));
-        let held = at(memory.as_slice(), operation.location, 0);
-        let front = at(fronts.as_slice(), operation.process, 0);
+        let operation = log.operation(at(schedule, entry, NOBODY));
+        let held = at(memory.as_slice(), operation.location.number(), 0);
+        let front = at(
+            fronts.as_slice(),
+            operation.process.number(),
+            ProcessPlace::START,
+        );
         if operation.place != front || (operation.reads && operation.needed != held) {
             return Ok(false);
         }
         put(
             fronts.as_mut_slice(),
-            operation.process,
-            front.wrapping_add(1),
+            operation.process.number(),
+            front.next(),
         );
         if operation.writes {
-            put(memory.as_mut_slice(), operation.location, operation.left);
+            put(
+                memory.as_mut_slice(),
+                operation.location.number(),
+                operation.left,
+            );
         }
     }
-    for location in 0..log.locations() {
-        if Some(at(memory.as_slice(), location, 0)) != log.last(location) {
+    for location in log.location_ids() {
+        if Some(at(memory.as_slice(), location.number(), 0)) != log.last(location) {
             return Ok(false);
         }
     }
@@ -172,6 +187,6 @@ fn a_log_with_an_origin_is_not_searched(rt: HostRuntime) {
     let mut log = ample(&rt, drawn_log(alloc, 1, 24));
     let classes = ample(&rt, ValueClasses::new(alloc, &log));
     expect(&rt, BeamSearch::can_search(&log, &classes), 0);
-    log.set_origin(0, NumberedOrigin::Initial);
+    log.set_origin(OperationId::FIRST, NumberedOrigin::Initial);
     expect(&rt, !BeamSearch::can_search(&log, &classes), 1);
 }

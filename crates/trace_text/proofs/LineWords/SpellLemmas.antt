@@ -14,6 +14,7 @@ use Rattle.trace_semantics.specs.declared.operation.Origin.{Origin}
 use Rattle.trace_semantics.specs.declared.operation.Origin.TheVariants.{Any, Initial, Operation}
 use Rattle.trace_semantics.specs.declared.operation.Span.{Span}
 use Rattle.trace_semantics.specs.declared.trace.Process.{Process}
+use Rattle.trace_semantics.specs.KnownOrder.{has_span}
 use Rattle.trace_text.specs.declared.trace_fault.TraceCause.{TraceCause}
 use Rattle.trace_text.specs.declared.trace_fault.TraceCause.TheVariants.{LateHeaderLine}
 use Rattle.trace_text.specs.Entry.{source_of, times_said, op_statement, before_statement}
@@ -21,7 +22,7 @@ use Rattle.trace_text.specs.Gathered.{is_init, is_final, is_of_process, process_
 use Rattle.trace_text.specs.Read.{saying}
 use Rattle.trace_text.specs.Statement.{Statement, Init, Final, Proc, Read, Write, Update, Before, source_words, times_words, words_for, untimed_statement, timed_statement, first_said, statement_of}
 use Rattle.trace_text.specs.TraceFault.{is_proc, is_before, is_value_line, statement_fault, or_else}
-use Rattle.trace_text.specs.TraceText.{proc_line, op_line, process_lines, begins, is_process_line, origin_words, span_words, has_origin, has_span}
+use Rattle.trace_text.specs.TraceText.{proc_line, op_line, process_lines, begins, is_process_line, origin_words, span_words, has_origin}
 use Rattle.trace_semantics.proofs.ElementLemmas.{placed, head_in, tail_in, cases_in, none_in, from_filter, to_map, to_flat_map, some_passes, passes_some}
 use Rattle.trace_semantics.specs.declared.limits.Limits.{Limits}
 use Rattle.trace_text.specs.declared.version.Version.{Version}

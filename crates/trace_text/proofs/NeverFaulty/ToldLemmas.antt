@@ -12,11 +12,12 @@ use Rattle.trace_semantics.specs.declared.operation.Op.TheVariants.{Read as Read
 use Rattle.trace_semantics.specs.declared.operation.OpName.{OpName}
 use Rattle.trace_semantics.specs.declared.operation.Origin.TheVariants.{Any, Initial, Operation}
 use Rattle.trace_semantics.specs.declared.trace.Process.{Process}
+use Rattle.trace_semantics.specs.KnownOrder.{has_span, says_times}
 use Rattle.trace_text.specs.Entry.{op_statement, statement_for}
 use Rattle.trace_semantics.specs.Names.{is_name}
 use Rattle.trace_text.specs.Statement.{Statement, words_for, untimed_statement, timed_statement, first_said, statement_of}
 use Rattle.trace_semantics.specs.Trace.{TraceValue, IsWritten, is_written_value, is_written_op, is_written_process, is_written_pair}
-use Rattle.trace_text.specs.TraceText.{SpellsTrace, init_line, final_line, proc_line, op_line, process_lines, before_line, begins, is_process_line, has_origin, has_span, says_times, needs_version_2}
+use Rattle.trace_text.specs.TraceText.{SpellsTrace, init_line, final_line, proc_line, op_line, process_lines, before_line, begins, is_process_line, has_origin, needs_version_2}
 use Rattle.trace_semantics.proofs.ElementLemmas.{head_in, tail_in, none_in, cases_in, all_pass, passes_some, from_map, to_filter, from_flat_map}
 use Rattle.trace_text.specs.declared.version.Version.{Version}
 use Rattle.trace_text.specs.declared.version.Version.TheVariants.{One, Two, Three}

@@ -16,9 +16,10 @@ use Rattle.trace_semantics.specs.declared.operation.Origin.{Origin}
 use Rattle.trace_semantics.specs.declared.operation.Origin.TheVariants.{Any, Initial, Operation}
 use Rattle.trace_semantics.specs.declared.operation.Span.{Span}
 use Rattle.trace_semantics.specs.declared.trace.Process.{Process}
+use Rattle.trace_semantics.specs.KnownOrder.{says_times}
 use Rattle.trace_semantics.specs.Names.{is_name}
 use Rattle.trace_semantics.specs.Trace.{TraceValue, IsTrace, IsWritten, operation_count, location_count, is_written_value, is_written_name, is_written_origin, is_written_span, is_written_op, is_written_process, is_written_pair}
-use Rattle.trace_text.specs.TraceText.{SpellsTrace, begins, is_process_line, header_line, init_line, final_line, proc_line, origin_words, span_words, op_line, process_lines, before_line, says_times, needs_version_2, needs_version_3, FitsIn}
+use Rattle.trace_text.specs.TraceText.{SpellsTrace, begins, is_process_line, header_line, init_line, final_line, proc_line, origin_words, span_words, op_line, process_lines, before_line, needs_version_2, needs_version_3, FitsIn}
 use Rattle.trace_text.specs.TraceWritten.{version_for, canonical_body, canonical_lines, canonical_trace}
 use Rattle.trace_text.proofs.Writing.LineTextLemmas.{is_word, is_line, name_is_word, number_is_word, written_kept}
 use Rattle.trace_text.proofs.Writing.WritableLemmas.{name_parts, value_parts, read_parts, write_parts, update_parts}

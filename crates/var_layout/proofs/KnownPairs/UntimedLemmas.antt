@@ -41,7 +41,7 @@ module _ (t : TraceValue) (ok : IsTrace t) (untimed : (i : ℕ) → i < operatio
       said_listed t pair.0 pair.1 (subst (λ (k : ℕ). k < operation_count t) first (known_number t of.0.0 known.0).within) (subst (λ (k : ℕ). k < operation_count t) second (known_number t of.0.1 known.1).within)
       (or_left (list_any (λ (k : ℕ). k == pair.1) (paired_after t pair.0)) (is_timed t pair.0 pair.1) (in_paired t pair.0 pair.1 c))
 
-  pub known_are_before : known_pairs t ≡ map (numbers_of t) t.before
+  known_are_before : known_pairs t ≡ map (numbers_of t) t.before
   known_are_before = rising_same IsLowerPair lower_never lower_one_way (known_pairs t) (map (numbers_of t) t.before) (known_rise t) (before_rise t ok) to_before from_before
 
 no_span_at : (t : TraceValue) → HasNoTimes t → (i : ℕ) (o : Option OpName) → name_at t i ≡ o → option_and_then span_of (option_and_then (operation_at t) o) ≡ None

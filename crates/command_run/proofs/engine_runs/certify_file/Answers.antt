@@ -9,8 +9,8 @@ pub returns : goal.returns
 returns g c =
     let written = g.H.Output.Sink.written in
     let failures = g.H.Output.Sink.failures in
-    let trace = source_run g.H.Input.Source.handed_out g.H.Input.Source.is_at_end g.H.Input.Source.failures c.open-trace.result.source c.certify-outcome.new.trace.source in
-    let out = sink_run g.W.Sink.written g.W.Sink.failures c.args.out.now c.certify-outcome.new.out in
+    let trace = source_run g.H.Input.Source.handed_out g.H.Input.Source.is_at_end g.H.Input.Source.failures c.open-trace.result.source c.run_certified_verify-outcome.new.trace.source in
+    let out = sink_run g.W.Sink.written g.W.Sink.failures c.args.out.now c.run_certified_verify-outcome.new.out in
     inr (record {
       before = c.in-Ok.file;
       after = c.into_sink.result;
@@ -18,16 +18,16 @@ returns g c =
       makes = c.in-Ok.ensures.makes;
       no_byte_before = c.in-Ok.ensures.written;
       no_failure_before = c.in-Ok.ensures.failures;
-      path_is = ap g.H.Output.Sink.path c.into_sink.ensures ∙ c.certify-outcome.ensures.same_cert ∙ ap g.H.Output.Sink.path c.counting-file.ensures ∙ c.in-Ok.ensures.path;
+      path_is = ap g.H.Output.Sink.path c.into_sink.ensures ∙ c.run_certified_verify-outcome.ensures.same_cert ∙ ap g.H.Output.Sink.path c.counting-file.ensures ∙ c.in-Ok.ensures.path;
       file = trace;
       opened = c.open-trace.new.host;
-      reads = reads_file c.open-trace.result.source c.certify-outcome.new.trace.source c.open-trace.ensures.opens c.open-trace.ensures.handed_out c.open-trace.ensures.is_at_end c.open-trace.ensures.failures (c.certify-outcome.ensures.same_trace ∙ c.open-trace.ensures.path);
-      searched = c.certify-outcome.new.host;
-      searches = c.certify-outcome.ensures.searches;
+      reads = reads_file c.open-trace.result.source c.run_certified_verify-outcome.new.trace.source c.open-trace.ensures.opens c.open-trace.ensures.handed_out c.open-trace.ensures.is_at_end c.open-trace.ensures.failures (c.run_certified_verify-outcome.ensures.same_trace ∙ c.open-trace.ensures.path);
+      searched = c.begin_search.new.self;
+      searches = c.begin_search.ensures;
       runs =
-          subst (λ after. IsRunOfCertifiedVerify trace (sink_run written failures c.in-Ok.file after) out c.certify-outcome.result) (sym c.into_sink.ensures)
-          (subst (λ before. IsRunOfCertifiedVerify trace (sink_run written failures before c.certify-outcome.new.cert.sink) out c.certify-outcome.result) c.counting-file.ensures
-          c.certify-outcome.ensures.run);
-      left_open = c.certify-outcome.ensures.unknown;
+          subst (λ after. IsRunOfCertifiedVerify trace (sink_run written failures c.in-Ok.file after) out c.run_certified_verify-outcome.result) (sym c.into_sink.ensures)
+          (subst (λ before. IsRunOfCertifiedVerify trace (sink_run written failures before c.run_certified_verify-outcome.new.cert.sink) out c.run_certified_verify-outcome.result) c.counting-file.ensures
+          c.run_certified_verify-outcome.ensures.run);
+      left_open = c.run_certified_verify-outcome.ensures.unknown;
       closes = c.close.ensures;
     })

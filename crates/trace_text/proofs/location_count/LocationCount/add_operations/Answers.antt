@@ -1,5 +1,4 @@
-use Rattle.std.proofs.Common.{◌≡◌, ℕ, List, [], ◌∷◌, ◌++◌, map, ap, sym, ◌∙◌, subst, arith}
-use Rattle.std.specs.List.{flat_map}
+use Rattle.std.proofs.Common.{ℕ, List, ◌++◌, ◌∙◌, subst, arith}
 use Rattle.trace_semantics.specs.Operation.{location_of}
 use Rattle.trace_text.specs.LocationCount.{IsCountOf, CountsOne}
 use Rattle.trace_text.proofs.CountedLemmas.{counted_one, counted_none, counted_more, counted_all, one_each}

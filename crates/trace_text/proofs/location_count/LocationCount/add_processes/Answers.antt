@@ -1,9 +1,8 @@
-use Rattle.std.proofs.Common.{◌≡◌, ℕ, List, [], ◌∷◌, ◌++◌, map, ap, sym, ◌∙◌, subst, arith}
-use Rattle.std.specs.List.{flat_map}
+use Rattle.std.proofs.Common.{List, ◌++◌, map, subst, arith}
 use Rattle.trace_semantics.specs.declared.operation.Op.{Op}
 use Rattle.trace_semantics.specs.Operation.{location_of}
-use Rattle.trace_text.specs.LocationCount.{IsCountOf, CountsOne}
-use Rattle.trace_text.proofs.CountedLemmas.{counted_one, counted_none, counted_more, counted_all, one_each}
+use Rattle.trace_text.specs.LocationCount.{IsCountOf}
+use Rattle.trace_text.proofs.CountedLemmas.{counted_none, counted_more, counted_all}
 use Rattle.trace_text.proofs.NamedLocations.{process_names}
 use Rattle.trace_text.proofs.location_count.LocationCount.add_processes.Goals as goal
 
