@@ -1,9 +1,11 @@
 //! The search, layer by layer.
 
 use crate::beam::Beam;
-use crate::best_successors::{NO_SUCCESSOR, Successor, best_of};
-use crate::classed_log::ClassedLog;
+use crate::best_successors::{NO_SUCCESSOR, NO_WORTH, Successor, best_of, greatest_excess};
+use crate::classed_log::{ClassLeft, ClassedLog, NOTHING_LEFT};
 use crate::dead_ends::{DeadEnds, SPACING, widest};
+use crate::evenness::Changed;
+use crate::front_cells::Grain;
 use crate::layer::Layer;
 use crate::next_writers::NextWriters;
 use crate::seen_states::SeenStates;
@@ -35,12 +37,11 @@ struct KeptLayer {
     layer: Layer,
 }
 
-/// The cost of a plain write over a value of which this many can be spared.
-fn cost_of_loss(spare: u32, beam: Beam) -> i64 {
-    if spare == 0 {
-        return 0;
-    }
-    (beam.scarce / spare) as i64
+/// A writer over what its location holds: what it leaves of that class, and what that costs.
+#[derive(Clone, Copy)]
+struct Step {
+    changed: Changed,
+    cost: i64,
 }
 
 /// The end of a search.
@@ -58,9 +59,9 @@ pub struct BeamSearch<'a> {
     rows: &'a ClosedRows,
     classed: ClassedLog,
     next_writers: NextWriters,
-    /// The state at hand, and how many plain writes can still come over each class in it.
+    /// The state at hand, and what is left of each class in it.
     state: State,
-    spare: Vec<u32>,
+    left_of: Vec<ClassLeft>,
     layer: Layer,
     /// Layers before it, to which the search can go back.
     kept: Vec<KeptLayer>,
@@ -68,6 +69,8 @@ pub struct BeamSearch<'a> {
     /// The number of layers whose successors were looked for.
     layers_made: u32,
     seen: SeenStates,
+    seen_cells: SeenStates,
+    grain: Grain,
     successors: Vec<Successor>,
     /// For each layer where its states begin among the steps.
     begins: Vec<u32>,
@@ -86,12 +89,14 @@ impl Drop for BeamSearch<'_> {
             classed: _classed,
             next_writers: _next_writers,
             state: _state,
-            spare: _spare,
+            left_of: _left_of,
             layer: _layer,
             kept: _kept,
             kept_entries: _,
             layers_made: _,
             seen: _seen,
+            seen_cells: _seen_cells,
+            grain: _,
             successors: _successors,
             begins: _begins,
             steps: _steps,
@@ -126,7 +131,7 @@ impl<'a> BeamSearch<'a> {
             log,
             rows,
             next_writers: NextWriters::new(alloc, log, &classed, count)?,
-            spare: Vec::from_slice(alloc, classed.spare())?,
+            left_of: Vec::from_slice(alloc, classed.left_of())?,
             classed,
             layer: Layer::new(alloc, &state, count),
             kept: Vec::new(alloc),
@@ -134,6 +139,8 @@ impl<'a> BeamSearch<'a> {
             layers_made: 0,
             state,
             seen: SeenStates::new(alloc, 0)?,
+            seen_cells: SeenStates::new(alloc, 0)?,
+            grain: Grain::FIRST,
             successors: Vec::new(alloc),
             begins: Vec::new(alloc),
             steps: Vec::new(alloc),
@@ -175,8 +182,7 @@ impl<'a> BeamSearch<'a> {
                 return Ok(BeamEnding::Scheduled);
             }
             let width = dead_ends.width_at(self.depth());
-            let best = best_of(alloc, self.successors.as_slice(), width)?;
-            self.make_next_layer(alloc, best.as_slice(), beam, budget)?;
+            self.choose_next_layer(alloc, width, budget)?;
         }
         Ok(BeamEnding::GivenUp)
     }
@@ -213,14 +219,16 @@ impl<'a> BeamSearch<'a> {
     fn begin(&mut self, alloc: Global, beam: Beam) -> Result<(), AllocError> {
         let most = widest(beam).saturating_mul(self.log.processes());
         self.seen = SeenStates::new(alloc, most)?;
+        self.seen_cells = SeenStates::new(alloc, most)?;
+        self.grain = Grain::FIRST;
         self.kept.clear();
         self.kept_entries = 0;
         self.begins.clear();
         self.steps.clear();
         self.state = State::new(alloc, &self.classed, self.log.processes())?;
-        self.layer = Layer::new(alloc, &self.state, size(self.classed.spare()));
+        self.layer = Layer::new(alloc, &self.state, size(self.classed.left_of()));
         self.state.settle(&self.classed, self.rows)?;
-        self.layer.push(&self.state, self.classed.spare())?;
+        self.layer.push(&self.state, self.classed.left_of())?;
         self.begins.push(0)?;
         self.steps.push(0)?;
         Ok(())
@@ -273,35 +281,71 @@ impl<'a> BeamSearch<'a> {
         {
             return Ok(());
         }
-        let Some(cost) = self.cost_over_held(parent, number, beam) else {
+        let Some(step) = self.step(parent, number) else {
             return Ok(());
         };
-        self.place(process, number, cost)?;
+        self.place(process, number, step.cost)?;
         budget.spend(self.looks());
-        if self.seen.note(self.state.mixed(), self.layers_made) {
-            if let Some(worth) = self.state.worth(&self.classed, &self.next_writers, beam) {
-                self.successors.push(Successor {
-                    parent,
-                    process,
-                    worth,
-                })?;
-            }
-        }
+        self.note_successor(parent, process, beam)?;
         self.layer.load(parent, &mut self.state);
         Ok(())
     }
 
-    /// The cost of what the operation writes over in the parent, or none if that cannot be spared.
-    fn cost_over_held(&self, parent: u32, number: OperationId, beam: Beam) -> Option<i64> {
-        if self.classed.needed(number) != ClassId::NONE {
-            return Some(0);
+    /// Notes the state at hand as one that can follow. If it has come up in this layer, it gets the ways that lead to it in addition.
+    fn note_successor(
+        &mut self,
+        parent: u32,
+        process: ProcessId,
+        beam: Beam,
+    ) -> Result<(), AllocError> {
+        let number = size(self.successors.as_slice());
+        let first = self.seen.note(self.state.mixed(), self.layers_made, number);
+        let ways = self.state.ways;
+        if first != number {
+            let mut known = at(self.successors.as_slice(), first, NO_SUCCESSOR);
+            known.ways = known.ways.or(ways);
+            put(self.successors.as_mut_slice(), first, known);
+            return Ok(());
         }
-        let held = self.state.held(self.classed.location(number));
-        let spare = self.layer.spare(parent, held);
-        if spare == 0 {
-            return None;
+        let worth = self.state.worth(&self.classed, &self.next_writers, beam);
+        self.successors.push(Successor {
+            parent,
+            process,
+            worth: worth.unwrap_or(NO_WORTH),
+            ways,
+            cell: self.state.front_cell(&self.classed, self.grain),
+        })?;
+        Ok(())
+    }
+
+    /// What the operation does to the class that its location holds in the parent, or none if it is a plain write over a value that cannot be spared.
+    fn step(&self, parent: u32, number: OperationId) -> Option<Step> {
+        let location = self.classed.location(number);
+        let held = self.state.held(location);
+        let needed = self.classed.needed(number);
+        let before = self.layer.left_of(parent);
+        let mut left = at(before, held.number(), NOTHING_LEFT);
+        if held.number() >= size(before) || self.classed.left(number) == needed {
+            return Some(Step {
+                changed: Changed::NOTHING,
+                cost: 0,
+            });
         }
-        Some(cost_of_loss(spare, beam))
+        left.times = left.times.wrapping_sub(1);
+        if needed == ClassId::NONE {
+            if left.spare == 0 {
+                return None;
+            }
+            left.spare = left.spare.wrapping_sub(1);
+        }
+        let members = self.classed.members(location);
+        let changed = Changed { class: held, left };
+        let cost = changed.unevenness(before, members);
+        let earlier = Changed::NOTHING.unevenness(before, members);
+        Some(Step {
+            changed,
+            cost: cost.wrapping_sub(earlier),
+        })
     }
 
     /// Places the process's next operation in the state at hand, and what can come then and changes nothing.
@@ -316,22 +360,43 @@ impl<'a> BeamSearch<'a> {
         self.state.settle(&self.classed, self.rows)
     }
 
+    /// Chooses at most this many of the successors, and makes the next layer of them.
+    fn choose_next_layer(
+        &mut self,
+        alloc: Global,
+        width: u32,
+        budget: &mut Budget,
+    ) -> Result<(), AllocError> {
+        let successors = self.successors.as_slice();
+        let excess = greatest_excess(successors);
+        let chosen = best_of(
+            alloc,
+            successors,
+            &mut self.seen_cells,
+            self.layers_made,
+            width,
+        )?;
+        self.grain = self.grain.next(chosen.cells, width);
+        self.make_next_layer(alloc, chosen.best.as_slice(), excess, budget)
+    }
+
     /// Makes the next layer of these successors, and puts it in place of the layer.
     fn make_next_layer(
         &mut self,
         alloc: Global,
         best: &[Successor],
-        beam: Beam,
+        excess: u32,
         budget: &mut Budget,
     ) -> Result<(), AllocError> {
         let depth = self.depth();
         self.begins.push(size(self.steps.as_slice()))?;
-        let classes = size(self.classed.spare());
+        let classes = size(self.classed.left_of());
         let mut next = Layer::new(alloc, &self.state, classes);
         for entry in 0..size(best) {
             let successor = at(best, entry, NO_SUCCESSOR);
-            self.follow(successor, beam)?;
-            next.push(&self.state, self.spare.as_slice())?;
+            self.follow(successor)?;
+            self.state.ways = successor.ways.without(excess);
+            next.push(&self.state, self.left_of.as_slice())?;
             budget.spend(self.looks().saturating_add(classes as u64));
             let parent = successor.parent.wrapping_mul(self.log.processes());
             self.steps
@@ -347,22 +412,16 @@ impl<'a> BeamSearch<'a> {
     }
 
     /// Makes the state at hand that of the successor.
-    fn follow(&mut self, successor: Successor, beam: Beam) -> Result<(), AllocError> {
+    fn follow(&mut self, successor: Successor) -> Result<(), AllocError> {
         self.layer.load(successor.parent, &mut self.state);
-        self.layer.load_spare(successor.parent, &mut self.spare);
+        self.layer.load_left_of(successor.parent, &mut self.left_of);
         let number = self.state.next(&self.classed, successor.process);
-        let mut cost = 0;
-        if self.classed.needed(number) == ClassId::NONE {
-            let held = self.state.held(self.classed.location(number));
-            let left = at(self.spare.as_slice(), held.number(), u32::MAX);
-            put(
-                self.spare.as_mut_slice(),
-                held.number(),
-                left.wrapping_sub(1),
-            );
-            cost = cost_of_loss(left, beam);
-        }
-        self.place(successor.process, number, cost)
+        let Some(step) = self.step(successor.parent, number) else {
+            return Ok(());
+        };
+        let class = step.changed.class.number();
+        put(self.left_of.as_mut_slice(), class, step.changed.left);
+        self.place(successor.process, number, step.cost)
     }
 
     /// Reads the schedule off the steps to this state of the layer. States do not have the operations that were placed, so these are placed once

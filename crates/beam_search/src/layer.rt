@@ -1,6 +1,8 @@
 //! The states of a layer.
 
+use crate::classed_log::{ClassLeft, NOTHING_LEFT};
 use crate::state::State;
+use crate::ways::Ways;
 use numbered_log::ProcessPlace;
 use possible_sources::ClassId;
 use std::alloc::{AllocError, Global};
@@ -14,9 +16,10 @@ pub(crate) struct Layer {
     classes: u32,
     fronts: Vec<ProcessPlace>,
     held: Vec<ClassId>,
-    /// For each state and class how many plain writes can still come over it.
-    spare: Vec<u32>,
+    /// For each state and class what is left of it.
+    left_of: Vec<ClassLeft>,
     gains: Vec<i64>,
+    ways: Vec<Ways>,
 }
 
 /// Drops each table, in one call for each exit of a function that owns a layer.
@@ -29,8 +32,9 @@ impl Drop for Layer {
             classes: _,
             fronts: _fronts,
             held: _held,
-            spare: _spare,
+            left_of: _left_of,
             gains: _gains,
+            ways: _ways,
         } = self;
     }
 }
@@ -62,8 +66,9 @@ impl Layer {
             classes,
             fronts: Vec::new(alloc),
             held: Vec::new(alloc),
-            spare: Vec::new(alloc),
+            left_of: Vec::new(alloc),
             gains: Vec::new(alloc),
+            ways: Vec::new(alloc),
         }
     }
 
@@ -80,12 +85,13 @@ impl Layer {
         of_state.saturating_mul(self.count as u64)
     }
 
-    /// Adds the state, given for each class how many plain writes can still come over it.
-    pub(crate) fn push(&mut self, state: &State, spare: &[u32]) -> Result<(), AllocError> {
+    /// Adds the state, given for each class what is left of it.
+    pub(crate) fn push(&mut self, state: &State, left_of: &[ClassLeft]) -> Result<(), AllocError> {
         append(&mut self.fronts, state.fronts.as_slice())?;
         append(&mut self.held, state.held.as_slice())?;
-        append(&mut self.spare, spare)?;
+        append(&mut self.left_of, left_of)?;
         self.gains.push(state.gain)?;
+        self.ways.push(state.ways)?;
         self.count = self.count.wrapping_add(1);
         Ok(())
     }
@@ -102,22 +108,23 @@ impl Layer {
         let held = number.wrapping_mul(self.locations);
         copy_out(self.held.as_slice(), held, &mut state.held, ClassId::NONE);
         state.gain = at(self.gains.as_slice(), number, 0);
+        state.ways = at(self.ways.as_slice(), number, Ways::FIRST);
     }
 
-    /// Makes the numbers of what can be spared those of this state.
-    pub(crate) fn load_spare(&self, number: u32, spare: &mut Vec<u32>) {
+    /// For each class what is left of it in this state.
+    #[inline(always)]
+    pub(crate) fn left_of(&self, number: u32) -> &[ClassLeft] {
         let from = number.wrapping_mul(self.classes);
-        copy_out(self.spare.as_slice(), from, spare, 0);
+        piece(
+            self.left_of.as_slice(),
+            from,
+            from.saturating_add(self.classes),
+        )
     }
 
-    /// The number of plain writes that can still come over the class in this state. A value without a class can always be spared.
-    pub(crate) fn spare(&self, number: u32, class: ClassId) -> u32 {
-        if class.number() >= self.classes {
-            return u32::MAX;
-        }
-        let entry = number
-            .wrapping_mul(self.classes)
-            .wrapping_add(class.number());
-        at(self.spare.as_slice(), entry, 0)
+    /// Makes what is left of each class that of this state.
+    pub(crate) fn load_left_of(&self, number: u32, left_of: &mut Vec<ClassLeft>) {
+        let from = number.wrapping_mul(self.classes);
+        copy_out(self.left_of.as_slice(), from, left_of, NOTHING_LEFT);
     }
 }

@@ -9,10 +9,13 @@ mod beam_search;
 mod best_successors;
 mod classed_log;
 mod dead_ends;
+mod evenness;
+mod front_cells;
 mod layer;
 mod next_writers;
 mod seen_states;
 mod state;
+mod ways;
 mod worth;
 
 pub use beam::Beam;

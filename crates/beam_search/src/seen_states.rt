@@ -1,4 +1,4 @@
-//! The states that a layer has already.
+//! The states, or cells of states, that a layer has already.
 
 use std::alloc::{AllocError, Global};
 use total_tables::{at, put};
@@ -8,8 +8,9 @@ pub(crate) struct SeenStates {
     /// The number of slots less one, which is a power of two less one.
     mask: u32,
     mixed: Vec<u64>,
-    /// For each slot the layer that has taken it.
+    /// For each slot the layer that has taken it, and the number of its state.
     layers: Vec<u32>,
+    numbers: Vec<u32>,
 }
 
 /// Drops the tables, in one call for each exit of a function that owns them.
@@ -19,6 +20,7 @@ impl Drop for SeenStates {
             mask: _,
             mixed: _mixed,
             layers: _layers,
+            numbers: _numbers,
         } = self;
     }
 }
@@ -45,23 +47,25 @@ impl SeenStates {
             mask: slots.wrapping_sub(1),
             mixed: vec![in alloc; 0; slots as usize]?,
             layers: vec![in alloc; 0; slots as usize]?,
+            numbers: vec![in alloc; 0; slots as usize]?,
         })
     }
 
-    /// Notes the state of this mixed number in the layer, counted from 1. Returns whether it is new.
-    pub(crate) fn note(&mut self, mixed: u64, layer: u32) -> bool {
+    /// Notes the state of this mixed number in the layer, counted from 1. Returns the number of the first that was noted so: its own if it is new.
+    pub(crate) fn note(&mut self, mixed: u64, layer: u32, number: u32) -> u32 {
         let mut slot = ((mixed >> 32) as u32) & self.mask;
         for _ in 0..MOST_PROBES {
             if at(self.layers.as_slice(), slot, 0) != layer {
                 put(self.layers.as_mut_slice(), slot, layer);
                 put(self.mixed.as_mut_slice(), slot, mixed);
-                return true;
+                put(self.numbers.as_mut_slice(), slot, number);
+                return number;
             }
             if at(self.mixed.as_slice(), slot, 0) == mixed {
-                return false;
+                return at(self.numbers.as_slice(), slot, number);
             }
             slot = slot.wrapping_add(1) & self.mask;
         }
-        true
+        number
     }
 }

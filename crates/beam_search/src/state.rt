@@ -1,6 +1,7 @@
 //! A state, and what can come next in it.
 
 use crate::classed_log::ClassedLog;
+use crate::ways::Ways;
 use closed_rows::ClosedRows;
 use numbered_log::{
     LocationId, LocationIds, NOBODY, OperationId, ProcessId, ProcessIds, ProcessPlace,
@@ -10,9 +11,9 @@ use std::alloc::{AllocError, Global};
 use total_tables::{at, put, size};
 
 /// The gain of each plain read, and of each update, that is placed.
-const READ: i64 = 20;
+const READ: i64 = 14;
 
-const UPDATE: i64 = 10;
+const UPDATE: i64 = 14;
 
 /// What is placed of each process, and what each location holds.
 pub(crate) struct State {
@@ -20,8 +21,9 @@ pub(crate) struct State {
     pub(crate) fronts: Vec<ProcessPlace>,
     /// For each location the class of what it holds.
     pub(crate) held: Vec<ClassId>,
-    /// What was gained by the operations that are placed.
+    /// What was gained by the operations that are placed, less what their order has cost.
     pub(crate) gain: i64,
+    pub(crate) ways: Ways,
     /// The operations that were placed, in their order, if they are kept.
     pub(crate) placed: Vec<OperationId>,
     pub(crate) keeps_placed: bool,
@@ -34,6 +36,7 @@ impl Drop for State {
             fronts: _fronts,
             held: _held,
             gain: _,
+            ways: _,
             placed: _placed,
             keeps_placed: _,
         } = self;
@@ -51,6 +54,7 @@ impl State {
             fronts: vec![in alloc; ProcessPlace::FIRST; processes as usize]?,
             held: Vec::from_slice(alloc, log.initial())?,
             gain: 0,
+            ways: Ways::FIRST,
             placed: Vec::new(alloc),
             keeps_placed: false,
         })
@@ -213,6 +217,28 @@ impl State {
         placed
     }
 
+    /// The number of the process's operations that are not placed.
+    #[inline(always)]
+    pub(crate) fn left_of(&self, log: &ClassedLog, process: ProcessId) -> u64 {
+        let end = log.length(process).wrapping_add(1);
+        end.saturating_sub(self.front(process).number()) as u64
+    }
+
+    /// The number of operations that are not placed.
+    pub(crate) fn left_in_all(&self, log: &ClassedLog) -> u64 {
+        let mut left: u64 = 0;
+        for process in self.process_ids() {
+            left = left.wrapping_add(self.left_of(log, process));
+        }
+        left
+    }
+
+    /// The process's share of the operations that are left, by its length.
+    #[inline(always)]
+    pub(crate) fn share_of(&self, log: &ClassedLog, process: ProcessId, left: u64) -> u64 {
+        left.wrapping_mul(log.length(process) as u64) / log.count().max(1)
+    }
+
     /// A number that is the same of the same fronts and classes held, and mostly differs otherwise. Two states of one number are taken for one,
     /// which can lose a schedule, and makes none wrong.
     pub(crate) fn mixed(&self) -> u64 {
@@ -229,7 +255,7 @@ impl State {
 
 /// Mixes a further entry into the number.
 #[inline(always)]
-fn mix(mixed: u64, entry: u32) -> u64 {
+pub(crate) fn mix(mixed: u64, entry: u32) -> u64 {
     let sum = (mixed ^ (mixed >> 29)).wrapping_add(entry as u64);
     sum.wrapping_mul(0xbf58_476d_1ce4_e5b9)
 }

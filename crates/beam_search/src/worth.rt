@@ -3,7 +3,7 @@
 use crate::beam::Beam;
 use crate::classed_log::ClassedLog;
 use crate::next_writers::NextWriters;
-use crate::state::State;
+use crate::state::{State, mix};
 use numbered_log::{NO_NUMBER, NOBODY, OperationId, ProcessId};
 use possible_sources::ClassId;
 
@@ -12,16 +12,20 @@ const FREE: i64 = 10;
 
 const MOST_FREE: u32 = 3;
 
+/// The cost of each operation up to the nearest writer of what a process waits for.
+const DISTANCE: i64 = 4;
+
 /// The low 32 bits of the number, as a signed one.
 #[inline(always)]
-fn signed(number: u64) -> i64 {
+pub(crate) fn signed(number: u64) -> i64 {
     ((number & 0xffff_ffff) as u32) as i64
 }
 
 impl State {
-    /// The worth of the state, or none if no schedule comes of it. A higher one is better.
+    /// The worth of the state but for the ways that lead to it, or none if no schedule comes of it. A higher one is better.
     pub(crate) fn worth(&self, log: &ClassedLog, next: &NextWriters, beam: Beam) -> Option<i64> {
         let mut worth = self.gain.wrapping_sub(self.imbalance(log, beam));
+        worth = worth.wrapping_add(self.chance(beam));
         for process in self.process_ids() {
             let number = self.next(log, process);
             if number == NOBODY {
@@ -36,8 +40,7 @@ impl State {
             if distance == NO_NUMBER {
                 return None;
             }
-            let cost = (distance as u64).wrapping_mul(beam.distance as u64);
-            worth = worth.wrapping_sub(signed(cost));
+            worth = worth.wrapping_sub(signed(distance as u64).wrapping_mul(DISTANCE));
         }
         Some(worth)
     }
@@ -91,26 +94,25 @@ impl State {
         nearest
     }
 
-    /// The cost of what is left of each process: the sum of the squared differences from the mean, times the beam's cost, divided by the mean plus 4.
+    /// The cost of what is left of each process: the sum of the squared differences from its share, times the beam's cost, divided by the mean plus 1.
+    /// Few orders keep a process far behind to the end, when the others no longer write what it reads.
     fn imbalance(&self, log: &ClassedLog, beam: Beam) -> i64 {
-        let mut sum: u64 = 0;
-        for process in self.process_ids() {
-            sum = sum.wrapping_add(self.left_of(log, process));
-        }
-        let mean = sum / (self.processes().max(1) as u64);
+        let all = self.left_in_all(log);
         let mut squares: u64 = 0;
         for process in self.process_ids() {
             let left = self.left_of(log, process);
-            let difference = left.max(mean).wrapping_sub(left.min(mean));
+            let share = self.share_of(log, process, all);
+            let difference = left.max(share).wrapping_sub(left.min(share));
             squares = squares.wrapping_add(difference.wrapping_mul(difference));
         }
+        let mean = all / (self.processes().max(1) as u64);
         let cost = squares.wrapping_mul(beam.imbalance as u64);
-        signed(cost / mean.saturating_add(4))
+        signed(cost / mean.saturating_add(1))
     }
 
-    /// The number of the process's operations that are not placed.
-    fn left_of(&self, log: &ClassedLog, process: ProcessId) -> u64 {
-        let end = log.length(process).wrapping_add(1);
-        end.saturating_sub(self.front(process).number()) as u64
+    /// A random number below 10, the same for the same state and beam.
+    fn chance(&self, beam: Beam) -> i64 {
+        let mixed = mix(self.mixed(), beam.seed);
+        signed((mixed >> 40) % 10)
     }
 }

@@ -7,25 +7,19 @@ use placing_walk::has_many_updates;
 use std::alloc::{AllocError, Global};
 
 /// The number of beams.
-const BEAMS: u32 = 3;
+const BEAMS: u32 = 6;
 
-/// The beam of this number, each wider than the one before. Narrow ones come first, since a beam gets wider where that is needed.
+/// The beam of this number. They are narrow, since a beam gets wider where that is needed, and differ in their random numbers.
 fn beam(number: u32) -> Beam {
-    let (width, imbalance) = match number {
-        0 => (100, 6),
-        1 => (500, 2),
-        _ => (2000, 2),
-    };
     Beam {
-        width,
-        scarce: 40,
-        distance: 4,
-        imbalance,
+        width: 60,
+        imbalance: 30,
+        seed: number,
     }
 }
 
-/// Searches the log with one beam after the other, within a third of the budget, if many of its operations are updates. Returns the schedule
-/// if there is one. With half of the budget no more of 27 logs were scheduled that the survey does not decide.
+/// Searches the log with one beam after the other, within two thirds of the budget, if many of its operations are updates. Returns the schedule
+/// if there is one.
 pub(crate) fn try_beams(
     alloc: Global,
     order: &mut Propagation<'_>,
@@ -34,14 +28,15 @@ pub(crate) fn try_beams(
         return Ok(None);
     }
     let mut rest = order.budget();
-    let mut budget = rest.share(rest.left() / 3);
+    let third = rest.left() / 3;
+    let mut budget = rest.share(third.wrapping_mul(2));
     let schedule = schedule_of_beams(alloc, order, &mut budget)?;
     rest.give_back(budget);
     order.set_budget(rest);
     Ok(schedule)
 }
 
-/// Searches with one beam after the other until the budget is spent.
+/// Searches with one beam after the other, each within half of what is left.
 fn schedule_of_beams(
     alloc: Global,
     order: &Propagation<'_>,
@@ -51,7 +46,10 @@ fn schedule_of_beams(
     budget.spend(entries);
     let mut search = BeamSearch::new(alloc, order.log(), order.classes(), order.rows())?;
     for number in 0..BEAMS {
-        if search.run(alloc, beam(number), budget)? == BeamEnding::Scheduled {
+        let mut part = budget.share(budget.left() / 2);
+        let ending = search.run(alloc, beam(number), &mut part)?;
+        budget.give_back(part);
+        if ending == BeamEnding::Scheduled {
             return Ok(Some(Vec::from_slice(alloc, search.schedule())?));
         }
     }

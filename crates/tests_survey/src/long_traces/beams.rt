@@ -35,9 +35,8 @@ const NO_OPERATION: Operation = Operation {
 fn beam_of(width: u32) -> Beam {
     Beam {
         width,
-        scarce: 40,
-        distance: 4,
-        imbalance: 2,
+        imbalance: 30,
+        seed: 0,
     }
 }
 
