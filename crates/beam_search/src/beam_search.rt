@@ -39,7 +39,7 @@ struct KeptLayer {
 
 /// A writer over what its location holds: what it leaves of that class, and what that costs.
 #[derive(Clone, Copy)]
-struct Step {
+struct Overwriting {
     changed: Changed,
     cost: i64,
 }
@@ -281,10 +281,10 @@ impl<'a> BeamSearch<'a> {
         {
             return Ok(());
         }
-        let Some(step) = self.step(parent, number) else {
+        let Some(over) = self.overwriting(parent, number) else {
             return Ok(());
         };
-        self.place(process, number, step.cost)?;
+        self.place(process, number, over.cost)?;
         budget.spend(self.looks());
         self.note_successor(parent, process, beam)?;
         self.layer.load(parent, &mut self.state);
@@ -318,15 +318,15 @@ impl<'a> BeamSearch<'a> {
         Ok(())
     }
 
-    /// What the operation does to the class that its location holds in the parent, or none if it is a plain write over a value that cannot be spared.
-    fn step(&self, parent: u32, number: OperationId) -> Option<Step> {
+    /// Returns what the operation does to the class that its location holds in the parent, or none if it is a plain write over a value that cannot be spared.
+    fn overwriting(&self, parent: u32, number: OperationId) -> Option<Overwriting> {
         let location = self.classed.location(number);
         let held = self.state.held(location);
         let needed = self.classed.needed(number);
         let before = self.layer.left_of(parent);
         let mut left = at(before, held.number(), NOTHING_LEFT);
         if held.number() >= size(before) || self.classed.left(number) == needed {
-            return Some(Step {
+            return Some(Overwriting {
                 changed: Changed::NOTHING,
                 cost: 0,
             });
@@ -342,7 +342,7 @@ impl<'a> BeamSearch<'a> {
         let changed = Changed { class: held, left };
         let cost = changed.unevenness(before, members);
         let earlier = Changed::NOTHING.unevenness(before, members);
-        Some(Step {
+        Some(Overwriting {
             changed,
             cost: cost.wrapping_sub(earlier),
         })
@@ -416,12 +416,12 @@ impl<'a> BeamSearch<'a> {
         self.layer.load(successor.parent, &mut self.state);
         self.layer.load_left_of(successor.parent, &mut self.left_of);
         let number = self.state.next(&self.classed, successor.process);
-        let Some(step) = self.step(successor.parent, number) else {
+        let Some(over) = self.overwriting(successor.parent, number) else {
             return Ok(());
         };
-        let class = step.changed.class.number();
-        put(self.left_of.as_mut_slice(), class, step.changed.left);
-        self.place(successor.process, number, step.cost)
+        let class = over.changed.class.number();
+        put(self.left_of.as_mut_slice(), class, over.changed.left);
+        self.place(successor.process, number, over.cost)
     }
 
     /// Reads the schedule off the steps to this state of the layer. States do not have the operations that were placed, so these are placed once

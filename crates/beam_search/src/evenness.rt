@@ -1,4 +1,4 @@
-//! How evenly a location's plain writes are left for its values. A plain write can only come over a value that no update waits for any more. So
+//! How evenly a location's plain writes are left for its values. A plain write can only come over a value for which no update waits. So
 //! where these writes are left to few of the values, most orders of them end dead, many layers later.
 
 use crate::classed_log::{ClassLeft, NOTHING_LEFT};
@@ -30,7 +30,7 @@ impl Changed {
         left: NOTHING_LEFT,
     };
 
-    /// What is left of the class, given what was left of each.
+    /// Returns what is left of the class, given what was left of each.
     #[inline(always)]
     fn left_of(self, before: &[ClassLeft], class: ClassId) -> ClassLeft {
         if class == self.class {

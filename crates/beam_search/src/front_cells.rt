@@ -36,7 +36,7 @@ impl Grain {
         }
     }
 
-    /// The number of the cell of a process that has so many operations left, where its share is this.
+    /// The number of the cell of a process that has this number of operations left, of this share.
     #[inline(always)]
     fn cell(self, left: u64, share: u64) -> u32 {
         let width = self.sixteenths.max(1) as u64;

@@ -27,7 +27,7 @@ impl Ways {
         }
     }
 
-    /// What to divide by so that the number has as many bits as the highest of a layer should have: a power of two, by its exponent.
+    /// Returns by which power of two to divide the number, so that it has as many bits as the highest of a layer should have.
     #[inline(always)]
     pub(crate) fn excess(self) -> u32 {
         let bits = 64_u32.saturating_sub(self.count.leading_zeros());
@@ -42,7 +42,7 @@ impl Ways {
         }
     }
 
-    /// The worth of so many ways: the logarithm of the number, linear between powers of two.
+    /// The worth of the ways: the logarithm of their number, linear between powers of two.
     #[inline(always)]
     pub(crate) fn worth(self) -> i64 {
         let exponent = 63_u32.saturating_sub(self.count.leading_zeros());

@@ -95,7 +95,8 @@ impl State {
     }
 
     /// The cost of what is left of each process: the sum of the squared differences from its share, times the beam's cost, divided by the mean plus 1.
-    /// Few orders keep a process far behind to the end, when the others no longer write what it reads.
+    /// Few orders keep a process far behind to
+    /// the end, when the others have placed the writers of what it reads.
     fn imbalance(&self, log: &ClassedLog, beam: Beam) -> i64 {
         let all = self.left_in_all(log);
         let mut squares: u64 = 0;
