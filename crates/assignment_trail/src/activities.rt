@@ -1,5 +1,6 @@
 //! Decision order by exponential VSIDS (Moskewicz and others, "Chaff", 2001; Eén and Sörensson, "An extensible SAT-solver", 2003).
 
+use crate::drawing::drawn;
 use std::alloc::{AllocError, Global};
 use total_tables::{at, put, size};
 
@@ -11,6 +12,12 @@ const RESCALE_FACTOR: f64 = 1e-100;
 
 /// Factor by which the increment grows at each conflict, 1/0.95: growing it costs less than decaying every activity.
 const BUMP_GROWTH: f64 = 1.0526315789473684;
+
+/// How many different amounts `stir` adds, from 0 on.
+const STIR_STEPS: u32 = 1000;
+
+/// The difference of two of them, in bumps.
+const STIR_STEP: f64 = 1e-5;
 
 /// Activities of the variables, and a binary heap of the open decision variables with the most active one at its root.
 #[derive(Drop)]
@@ -170,6 +177,20 @@ impl Activities {
         let place = at(self.places.as_slice(), variable, 0);
         if place != 0 {
             self.rise(place.wrapping_sub(1));
+        }
+    }
+
+    /// Adds a little to each activity, less than a hundredth of a bump, as this seed has it. So searches with other seeds try other decisions among
+    /// variables that had the same conflicts.
+    pub fn stir(&mut self, seed: u32) {
+        for variable in 0..size(self.activities.as_slice()) {
+            let little = f64::from(drawn(seed, variable) % STIR_STEPS) * STIR_STEP;
+            let activity = self.activity(variable) + little * self.bump;
+            put(self.activities.as_mut_slice(), variable, activity);
+            let place = at(self.places.as_slice(), variable, 0);
+            if place != 0 {
+                self.rise(place.wrapping_sub(1));
+            }
         }
     }
 

@@ -11,6 +11,7 @@
 
 mod activities;
 mod candidates;
+mod drawing;
 mod follow_reads;
 mod ordered_trail;
 mod trail;

@@ -1,9 +1,10 @@
 //! The trail: true literals in the order of their assignment.
 
+use crate::drawing::drawn;
 use clause_database::Reason;
 use proof_log::codes::NEVER;
 use std::alloc::{AllocError, Global};
-use total_tables::{at, put};
+use total_tables::{at, put, size};
 
 // These are bits, so that one `|` of the values of two literals says whether one is false and none is true.
 
@@ -68,6 +69,21 @@ impl Trail {
             level: 0,
             phases,
         })
+    }
+
+    /// Draws the value that each variable is tried with first, as this seed has it.
+    pub fn draw_first_values(&mut self, seed: u32) {
+        for variable in 0..size(self.phases.as_slice()) {
+            let phase = if drawn(seed, variable) & 1 == 0 { 0 } else { 1 };
+            put(self.phases.as_mut_slice(), variable, phase);
+        }
+    }
+
+    /// All variables are tried as false first.
+    pub fn try_false_first(&mut self) {
+        for phase in self.phases.iter_mut() {
+            *phase = 1;
+        }
     }
 
     #[inline(always)]

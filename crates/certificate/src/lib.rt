@@ -16,5 +16,5 @@ pub mod text_laws;
 pub use cert_fault::{CertCause, CertFault};
 pub use cert_reader::{read_cert, take_cert};
 pub use cert_writer::write_cert;
-pub use certificate::{Certificate, Section, Sections};
+pub use certificate::{Certificate, Section};
 pub use rechecking::recheck;

@@ -9,11 +9,12 @@ ghost use Rattle.certificate.specs.CertRead.{AreReadUpTo, HasLratFaultBehind, Ha
 
 use crate::cert_fault::{CertCause, CertFault};
 use crate::cert_line::read_begin;
-use crate::certificate::{Section, Sections};
+use crate::certificate::Section;
 use crate::section_text::cut_section;
 use lrat_check::derivation::Derivation;
 use lrat_check::lrat_fault::LratFault;
 use lrat_check::lrat_reader::read_lrat;
+use plain_lists::PlainList;
 use std::alloc::Global;
 use text_lines::comments::is_dimacs_skipped_line;
 use text_lines::lines::cut_line;
@@ -101,7 +102,7 @@ pub(crate) fn read_sections(
     alloc: Global,
     text: Vec<u8>,
     before: usize,
-) -> Result<Sections, CertFault>
+) -> Result<PlainList<Section>, CertFault>
     requires { before + length text.items + 2 < 2 ^ 64 }
     ensures spelled { IfOk result (λ sections. AreSections (lines_of text.items) sections) }
     ensures faulty { IfErr result (λ fault. IsRefusal (HasSectionFaultBehind before (lines_of text.items)) fault) }
@@ -115,5 +116,5 @@ pub(crate) fn read_sections(
         number = count;
         rest = behind;
     }
-    Ok(Sections::new(sections))
+    Ok(PlainList::new(sections))
 }

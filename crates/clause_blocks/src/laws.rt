@@ -1,7 +1,8 @@
 //! Laws of the clauses.
 //!
 //! A law's body is empty, or calls other laws: what it says is proved in the folder of its name in `proofs/laws`, or needs no
-//! answer. Who calls it has what it says in proofs; the call does nothing when run.
+//! answer. Who calls it has what it says in proofs; the call does nothing when run. Proofs give it its premises in the order in which
+//! they stand, so another order changes each of these proofs.
 
 ghost use Rattle.std.specs.Prelude.{◌≡◌, ◌↔◌, ◌≤◌, ◌*◌, ◌-◌, ◌/◌, ℕ, Bool, length, IsTrue};
 ghost use Rattle.std.specs.List.{list_all};

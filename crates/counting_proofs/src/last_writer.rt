@@ -130,6 +130,8 @@ pub fn add_last_writer(
         own.push(its.literal)?;
         operations.push(*candidate)?;
     }
+    // Of each candidate a clause says that it is the last writer, or that another comes behind it. Once all are eliminated, what is left is the
+    // clause that one of them is the last writer.
     let mut elimination = Elimination::of(alloc, known.order, Side::Behind, operations, own)?;
     for place in 0..size(ending.candidates()) {
         let candidate = at(ending.candidates(), place, 0);

@@ -13,7 +13,8 @@ pub struct Job {
     cube: Cube,
 }
 
-/// A job with its outcome. Only `Job::settle` makes one, so its ticket and its cube are those of the job.
+/// A job with its outcome. Only `Job::settle` makes one, so its ticket and its cube are those of the job. Contracts see it as the
+/// triple of its ticket, its cube and its outcome.
 #[derive(Drop)]
 pub struct Settled {
     ticket: u32,

@@ -1,4 +1,5 @@
-//! Raises the rows of a trace along the steps of its forced order.
+//! Raises the rows of a trace along the steps of its forced order. The row of an operation has for each process the last place that is known to stand
+//! before it; to raise it along a step is to take in the row of the operation that the step begins with.
 
 ghost use Rattle.std.specs.Prelude.{◌≡◌, ◌≤◌, ◌<◌, ◌+◌, nat_le, Some, IsSome, length};
 ghost use Rattle.std.specs.List.{slice_get};
@@ -32,7 +33,7 @@ fn count_of(trace: &Trace, k: usize) -> usize
     }
 }
 
-/// Raises the row of the operation after this one in its process.
+/// Raises the row of the operation after this one in its process. Returns whether that was news.
 fn raise_next(rows: &mut OrderRows, trace: &Trace, n: OperationNumber) -> bool
     requires trace { IsTrace trace.now }
     ensures { IsPass trace.now result rows.old rows.new (λ order. (p : Listed) → slice_get trace.now.processes n.process ≡ Some p → 1 ≤ n.place → n.place < length p.operations → IsClosedStep order n (record { process = n.process; place = n.place + 1 })) }

@@ -2,13 +2,17 @@
 
 ghost use Rattle.std.specs.Prelude.{◌≡◌, ◌≤◌, ◌+◌, OnOk, IfOk, IfSome};
 ghost use Rattle.proof_log.specs.Answers.{IsWithin};
+ghost use Rattle.proof_log.specs.Outcomes.{TakesConflict};
 
 use crate::answer::Answer;
-use crate::learner::Learner;
+use crate::learner::{Learner, SharingLearner};
 use crate::limit::refuted_within;
 use crate::proof_log::ProofLog;
 use crate::searching::{SearchEnd, search_on};
+use crate::shared_clauses::SharedClauses;
+use dimacs::Assignment;
 use std::alloc::{AllocError, Global};
+use std::mem;
 
 /// Conflicts per turn. Turns have equal length, so alternating two searches costs at most about twice the time of the better one.
 pub const TURN: u64 = 500;
@@ -56,6 +60,28 @@ impl<S: Learner + Drop> Attempt<S> {
         }
     }
 
+    /// Goes on with the search for at most `budget` conflicts, and says how that has ended. It makes no derivation: what is learned may rest on
+    /// additions of other logs.
+    pub fn run_on(&mut self, budget: u64) -> Result<SearchEnd, AllocError>
+        ensures within { OnOk result (self.new.log ≤ self.old.log + budget) }
+        ensures refuted { IfOk result (λ outcome. TakesConflict budget outcome) }
+    {
+        search_on(&mut self.search, &mut self.log, budget)
+    }
+
+    /// Returns the values of all variables, once nothing is left to decide.
+    pub fn model(&self) -> Result<Assignment, AllocError> {
+        self.search.model()
+    }
+
+    /// Returns the log, and begins an empty one, whose first addition will have this number.
+    pub fn begin_log(&mut self, first: u32) -> ProofLog
+        ensures taken { result ≡ self.old.log }
+        ensures empty { self.new.log ≡ 0 }
+    {
+        mem::replace(&mut self.log, ProofLog::new(self.alloc, first))
+    }
+
     /// Returns an answer that takes no further conflict, if there is one: a derivation of at most `budget` steps.
     fn refute_at_root(&mut self, budget: u64) -> Result<Option<Answer>, AllocError>
         ensures log { OnOk result (self.new.log ≡ self.old.log) }
@@ -76,6 +102,22 @@ impl<S: Learner + Drop> Attempt<S> {
             return Ok(Some(answer));
         }
         self.refute_at_root(left)
+    }
+}
+
+impl<S: SharingLearner + Drop> Attempt<S> {
+    /// Returns the short clauses that the search has learned since it last gave some.
+    pub fn give(&mut self) -> SharedClauses
+        ensures { self.new.log ≡ self.old.log }
+    {
+        self.search.give()
+    }
+
+    /// Goes back to level 0, and takes in clauses that another search has learned. They are no additions of this log.
+    pub fn take(&mut self, clauses: &SharedClauses) -> Result<(), AllocError>
+        ensures { OnOk result (self.new.log ≡ self.old.log) }
+    {
+        self.search.take(clauses)
     }
 }
 

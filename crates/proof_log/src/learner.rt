@@ -1,6 +1,7 @@
 //! The interface of a clause-learning search to its budget.
 
 use crate::proof_log::ProofLog;
+use crate::shared_clauses::SharedClauses;
 use dimacs::Assignment;
 use lrat_check::derivation::Derivation;
 use std::alloc::AllocError;
@@ -35,4 +36,13 @@ pub trait Learner {
 
     /// Returns the values of all variables, if there is no conflict and nothing is left to decide.
     fn model(&self) -> Result<Assignment, AllocError>;
+}
+
+/// A search that hands what it learns to others of the same formula, and takes in what they have learned. Nothing is promised of either.
+pub trait SharingLearner: Learner {
+    /// Returns the short clauses that were learned since the last call.
+    fn give(&mut self) -> SharedClauses;
+
+    /// Backtracks to level 0, and adds these clauses, which follow from the formula. They have numbers of their own.
+    fn take(&mut self, clauses: &SharedClauses) -> Result<(), AllocError>;
 }

@@ -5,6 +5,8 @@
 //!   addition. `search_alone` runs one by turns, and `take_turns` two; after each turn it looks for a derivation that takes no further
 //!   conflict. The search is any `Learner`, of which nothing is promised.
 //! - `Answer` is the result: a model, a derivation within the budget, or open.
+//! - `SharingLearner` is a search that hands `SharedClauses` to others of the same formula, and takes in theirs. A `LogChain` has the logs of
+//!   such searches one after the other, and makes one derivation of them.
 //! - `CubeSolver` is what answers the cubes of a formula, each within a budget.
 //! - `within` and `refuted_within` keep derivations that no search has made to a budget.
 //! - `codes` says how literals are written as numbers.
@@ -19,12 +21,17 @@ pub mod codes;
 mod cube_solver;
 mod learner;
 mod limit;
+mod log_chain;
 mod proof_log;
 mod searching;
+mod shared_clauses;
 
 pub use answer::Answer;
 pub use attempt::{Attempt, TURN, search_alone, take_turns};
 pub use cube_solver::CubeSolver;
-pub use learner::Learner;
+pub use learner::{Learner, SharingLearner};
 pub use limit::{refuted_within, within};
+pub use log_chain::LogChain;
 pub use proof_log::ProofLog;
+pub use searching::SearchEnd;
+pub use shared_clauses::{SharedClause, SharedClauses};

@@ -17,6 +17,15 @@ struct End {
     hints: u32,
 }
 
+/// Marks those of these clauses that have this number or a larger one.
+pub(crate) fn mark(clauses: &[u32], from: u32, marks: &mut [u8]) {
+    for clause in clauses {
+        if *clause >= from {
+            put(marks, clause.wrapping_sub(from), 1);
+        }
+    }
+}
+
 /// The additions of a derivation, apart from the search, so that nothing but `add` makes them more. Contracts see their number. They lie in
 /// three lists and become steps at the end, so that a conflict rarely asks for memory.
 pub struct ProofLog {
@@ -67,6 +76,11 @@ impl ProofLog {
         self.ends.len() as u64
     }
 
+    /// Returns the number that the first addition has or will have.
+    pub fn first_id(&self) -> u32 {
+        self.first
+    }
+
     /// Returns the number of the next addition.
     pub fn next_id(&self) -> u32 {
         self.first.wrapping_add(size(self.ends.as_slice()))
@@ -113,25 +127,22 @@ impl ProofLog {
         piece(self.literals.as_slice(), from, to)
     }
 
-    /// Marks the additions that are among these clauses.
-    fn mark(&self, clauses: &[u32], marks: &mut [u8]) {
-        for clause in clauses {
-            if *clause >= self.first {
-                put(marks, clause.wrapping_sub(self.first), 1);
+    /// Marks what each marked addition rests on, from the last one back: the backward pass that trims a proof to its core. The marks are of clauses
+    /// from this number on.
+    pub(crate) fn mark_needed(&self, from: u32, marks: &mut [u8]) {
+        let base = self.first.wrapping_sub(from);
+        for addition in (0..size(self.ends.as_slice())).rev() {
+            if at(marks, base.wrapping_add(addition), 0) != 0 {
+                mark(self.hints_of(addition), from, marks);
             }
         }
     }
 
-    /// Returns 1 for each addition on which these clauses rest: the backward pass that trims a proof to its core.
+    /// Returns 1 for each addition on which these clauses rest.
     fn needed(&self, alloc: Global, clauses: &[u32]) -> Result<Vec<u8>, AllocError> {
-        let count = size(self.ends.as_slice());
-        let mut needed = vec![in alloc; 0; count as usize]?;
-        self.mark(clauses, needed.as_mut_slice());
-        for addition in (0..count).rev() {
-            if at(needed.as_slice(), addition, 0) != 0 {
-                self.mark(self.hints_of(addition), needed.as_mut_slice());
-            }
-        }
+        let mut needed = vec![in alloc; 0; self.ends.len()]?;
+        mark(clauses, self.first, needed.as_mut_slice());
+        self.mark_needed(self.first, needed.as_mut_slice());
         Ok(needed)
     }
 
@@ -168,17 +179,32 @@ impl ProofLog {
         Ok(steps)
     }
 
+    /// Adds those additions as steps that are marked, or have no mark at all. The marks are of clauses from this number on.
+    pub(crate) fn push_marked(
+        &self,
+        alloc: Global,
+        from: u32,
+        marks: &[u8],
+        steps: &mut Vec<Step>,
+    ) -> Result<(), AllocError>
+        ensures { OnOk result (length steps.new.items ≤ length steps.old.items + self.now) }
+    {
+        let base = self.first.wrapping_sub(from);
+        for place in 0..self.ends.len() {
+            let addition = u32::try_from(place).unwrap_or(u32::MAX);
+            if at(marks, base.wrapping_add(addition), 1) != 0 {
+                steps.push(self.step(alloc, addition)?)?;
+            }
+        }
+        Ok(())
+    }
+
     /// Returns those additions as steps that are marked, or have no mark at all.
     fn marked_steps(&self, alloc: Global, marks: &[u8]) -> Result<Vec<Step>, AllocError>
         ensures { IfOk result (λ steps. length steps.items ≤ self.now) }
     {
         let mut steps = Vec::new(alloc);
-        for place in 0..self.ends.len() {
-            let addition = u32::try_from(place).unwrap_or(u32::MAX);
-            if at(marks, addition, 1) != 0 {
-                steps.push(self.step(alloc, addition)?)?;
-            }
-        }
+        self.push_marked(alloc, self.first, marks, &mut steps)?;
         Ok(steps)
     }
 

@@ -79,10 +79,7 @@ fn counted(found: Option<u64>, is_within: bool, line: &[u8]) -> Option<u64> {
     if !is_within {
         return found;
     }
-    let before = match found {
-        Some(before) => before,
-        None => 0,
-    };
+    let before = found.unwrap_or(0);
     if is_operation(line) {
         Some(before.wrapping_add(1))
     } else {

@@ -5,39 +5,8 @@ ghost use Rattle.result_ledger.specs.Ledger.{derivation_of, derivations_in, said
 use crate::slot::Slot;
 use cube_jobs::Outcome;
 use lrat_check::derivation::Derivation;
+use plain_lists::PlainList;
 use std::alloc::{AllocError, Global};
-use std::marker::Model;
-
-/// A list of derivations.
-#[derive(Drop)]
-pub struct Derivations {
-    derivations: Vec<Derivation>,
-}
-
-impl Model for Derivations {
-    ghost use Rattle.std.specs.Prelude.{List};
-    ghost use Rattle.lrat_check.specs.declared.derivation.Step.{Step};
-
-    ghost Value = { List (List Step) };
-
-    ghost view = { λ derivations. derivations.derivations.items };
-}
-
-impl Derivations {
-    /// The list of these derivations.
-    pub fn new(derivations: Vec<Derivation>) -> Derivations
-        ensures { result ≡ derivations.items }
-    {
-        Derivations { derivations }
-    }
-
-    /// The derivations, in order.
-    pub fn as_slice(&self) -> &[Derivation]
-        ensures { result.now ≡ self.now }
-    {
-        self.derivations.as_slice()
-    }
-}
 
 /// The derivation that is the answer, if it is one.
 fn into_derivation(outcome: Option<Outcome>) -> Option<Derivation>
@@ -67,12 +36,15 @@ fn push_answer(derivations: &mut Vec<Derivation>, slot: Slot) -> Result<(), Allo
 }
 
 /// The derivations among the answers, in the order of the slots. None is copied.
-pub(crate) fn take_derivations(alloc: Global, slots: Vec<Slot>) -> Result<Derivations, AllocError>
+pub(crate) fn take_derivations(
+    alloc: Global,
+    slots: Vec<Slot>,
+) -> Result<PlainList<Derivation>, AllocError>
     ensures { IfOk result (λ derivations. derivations ≡ derivations_in slots.items) }
 {
     let mut derivations = Vec::with_capacity(alloc, slots.len())?;
     for slot in slots {
         push_answer(&mut derivations, slot)?;
     }
-    Ok(Derivations::new(derivations))
+    Ok(PlainList::new(derivations))
 }

@@ -8,15 +8,16 @@ ghost use Rattle.cube_jobs.specs.Results.{AreLeaves};
 ghost use Rattle.result_ledger.specs.Verdict.{IsVerdict, AreWithout};
 
 use crate::confirming::first_model;
-use crate::derivations::{Derivations, take_derivations};
+use crate::derivations::take_derivations;
 use crate::entry_fault::EntryFault;
-use crate::leaves::Leaves;
 use crate::slot::Slot;
 use crate::unproved::without_proof;
 use crate::verdict::Verdict;
 use cube_jobs::Settled;
 use cube_tree::{Tree, bounded_cubes};
 use dimacs::{ClauseList, Cube, Lit, MAX_CUBE_LITERALS, are_same};
+use lrat_check::derivation::Derivation;
+use plain_lists::PlainList;
 use std::alloc::{AllocError, Global};
 use std::marker::Model;
 use std::thread::Threads;
@@ -229,13 +230,13 @@ impl Ledger {
                 if leaves.is_empty() {
                     return Ok(Verdict::Inconsistent(slots.len() as u32));
                 }
-                Ok(Verdict::Unknown(Leaves::new(leaves)))
+                Ok(Verdict::Unknown(PlainList::new(leaves)))
             }
         }
     }
 
     /// The derivations among the answers, in the order of the leaves: all of them, where the verdict is that each cube is refuted.
-    pub fn into_derivations(self, alloc: Global) -> Result<Derivations, AllocError>
+    pub fn into_derivations(self, alloc: Global) -> Result<PlainList<Derivation>, AllocError>
         ensures { IfOk result (λ derivations. derivations ≡ derivations_in self) }
     {
         let Ledger { slots } = self;

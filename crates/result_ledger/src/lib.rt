@@ -6,14 +6,12 @@ mod derivations;
 mod entering;
 mod entry_fault;
 mod laws;
-mod leaves;
 mod ledger;
 mod lrat_steps;
 mod slot;
 mod unproved;
 mod verdict;
 
-pub use derivations::Derivations;
 pub use entering::enter_all;
 pub use entry_fault::EntryFault;
 pub use laws::{
@@ -21,7 +19,6 @@ pub use laws::{
     inconsistent_has_no_model, proofs_by_leaf, skipped_only_above_a_model,
     split_tree_splits_a_cube, unknown_holds_all_models,
 };
-pub use leaves::Leaves;
 pub use ledger::Ledger;
 pub use slot::Slot;
 pub use verdict::Verdict;

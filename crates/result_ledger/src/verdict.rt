@@ -1,6 +1,6 @@
 //! Verdicts.
-use crate::leaves::Leaves;
 use dimacs::Assignment;
+use plain_lists::PlainList;
 
 /// The verdict that follows from the answers for all leaves of a tree.
 #[derive(Drop)]
@@ -10,5 +10,5 @@ pub enum Verdict {
     /// No leaf has a model for its answer, and each of this number of leaves has a derivation that can be written and is accepted.
     Inconsistent(u32),
     /// No leaf has a model for its answer, and these, rising, have no such derivation.
-    Unknown(Leaves),
+    Unknown(PlainList<u32>),
 }

@@ -18,13 +18,13 @@ pub const NEEDED: u8 = 3;
 impl<'a> Search<'a> {
     /// Returns the mark of the variable. The table has an entry for each variable of the formula.
     #[inline(always)]
-    pub fn mark(&self, variable: u32) -> u8 {
+    pub(crate) fn mark(&self, variable: u32) -> u8 {
         at(self.marks.as_slice(), variable, SEEN)
     }
 
     /// Marks a variable that had no mark.
     #[inline(always)]
-    pub fn set_mark(&mut self, variable: u32, mark: u8) -> Result<(), AllocError> {
+    pub(crate) fn set_mark(&mut self, variable: u32, mark: u8) -> Result<(), AllocError> {
         put(self.marks.as_mut_slice(), variable, mark);
         self.marked.push(variable)?;
         Ok(())
@@ -32,7 +32,7 @@ impl<'a> Search<'a> {
 
     /// Sets all variables that were marked back to `UNSEEN`. `marked` lists them, so this costs as much as was marked, whatever the number
     /// of variables.
-    pub fn clear_marks(&mut self) {
+    pub(crate) fn clear_marks(&mut self) {
         for variable in &self.marked {
             put(self.marks.as_mut_slice(), *variable, UNSEEN);
         }
@@ -72,7 +72,7 @@ impl<'a> Search<'a> {
 
     /// Learns from the conflict: walks back over the trail until one literal of the current level is left, the first unique implication
     /// point, and puts its negation first. At level 0 none is left, and the learned clause is empty.
-    pub fn analyze(&mut self, conflict: ReasonClause) -> Result<(), AllocError> {
+    pub(crate) fn analyze(&mut self, conflict: ReasonClause) -> Result<(), AllocError> {
         self.learned.clear();
         self.resolved.clear();
         self.pending.clear();

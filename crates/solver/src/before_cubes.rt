@@ -1,6 +1,8 @@
 //! What is searched before the cubes of a formula are.
 
 use crate::prepared_formula::PreparedFormula;
+use crate::schedule_heuristic::suits_a_schedule;
+use crate::search::Search;
 use crate::solving::{begin, search_begun, search_cube};
 use crate::whole::{CubeRefutation, WholeRefutation};
 use assignment_trail::Activities;
@@ -31,8 +33,12 @@ const FIRST_CUBES: u32 = 16;
 /// The least budget with which anything is searched before the cubes.
 const LEAST_BUDGET: u64 = 4000;
 
-/// Conflicts of the search of the formula itself. Most formulas take fewer, and one that takes more is searched cube by cube afterwards.
-const WHOLE_CONFLICTS: u64 = 8000;
+/// Conflicts of the search of the formula itself, by one thread. If it takes more, this search is handed on, so that others that share what they
+/// learn go on with it.
+const WHOLE_CONFLICTS: u64 = 500;
+
+/// Conflicts of a search of the formula itself that takes turns with one along a schedule. It is not handed on.
+const SCHEDULE_CONFLICTS: u64 = 8000;
 
 /// Returns the codes of the literals of the first cube over these variables: all of them are true in it.
 fn first_cube(alloc: Global, splits: &[u32]) -> Result<Vec<u32>, AllocError> {
@@ -150,20 +156,56 @@ impl<'a> PreparedFormula<'a> {
     ) -> Result<bool, AllocError> {
         self.leading = Vec::from_slice(alloc, splits)?;
         let id = self.id_in_cube(splits.len());
-        match search_cube(alloc, self, &[], id, conflicts)? {
+        let answer = search_cube(alloc, self, &[], id, conflicts)?;
+        Ok(self.know(splits.len(), answer))
+    }
+
+    /// Enters what was found of the formula itself, with ids that leave room for this many literals of a cube. Returns whether that settles it.
+    pub fn know(&mut self, literals: usize, answer: Answer) -> bool {
+        match answer {
             Answer::Refuted(derivation) => {
                 self.refutation = Some(WholeRefutation {
-                    literals: splits.len(),
+                    literals,
                     derivation,
                 });
-                Ok(true)
+                true
             }
             Answer::Model(model) => {
                 self.model = Some(model);
-                Ok(true)
+                true
             }
-            Answer::Open => Ok(false),
+            Answer::Open => false,
         }
+    }
+
+    /// Searches the formula itself likewise, by a search that shares what it learns. If this settles nothing, the search is handed on, unless it
+    /// took turns with one along a schedule.
+    fn search_to_hand_on(
+        &mut self,
+        alloc: Global,
+        splits: &[u32],
+        budget: u64,
+    ) -> Result<Option<Attempt<Search<'a>>>, AllocError> {
+        self.leading = Vec::from_slice(alloc, splits)?;
+        let id = self.id_in_cube(splits.len());
+        let mut search = begin(alloc, self, &[])?;
+        if let Some(counted) = search.count_sources(id, budget.min(SCHEDULE_CONFLICTS))? {
+            self.know(splits.len(), counted);
+            return Ok(None);
+        }
+        search.begin_to_share();
+        let takes_turns = suits_a_schedule(&search.trail);
+        let most = if takes_turns {
+            SCHEDULE_CONFLICTS
+        } else {
+            WHOLE_CONFLICTS
+        };
+        let mut first = Attempt::new(alloc, search, id);
+        let answer = search_begun(alloc, self, &[], id, &mut first, budget.min(most))?;
+        if self.know(splits.len(), answer) || takes_turns {
+            return Ok(None);
+        }
+        Ok(Some(first))
     }
 
     /// Searches a little of the formula itself and then the cubes after the first, which is refuted and took this many conflicts. Returns whether
@@ -186,27 +228,27 @@ impl<'a> PreparedFormula<'a> {
     /// Searches the cubes over these variables and the formula itself for a little while, unless it was refuted by counting: the first cube, and if
     /// that is refuted, the next ones; and then the formula itself. A derivation for the formula itself is the answer for each cube, and one for
     /// a cube is the answer for that cube. A model is the answer for the cube that it is in, and the other cubes then stay open. Nothing is
-    /// searched if the budget is small: that is left to the cubes.
+    /// searched if the budget is small: that is left to the cubes. If the last search is left open, it is returned: `begin_seats` has the others
+    /// that go on with it.
     pub fn search_whole(
         &mut self,
         alloc: Global,
         splits: &[u32],
         budget: u64,
-    ) -> Result<(), AllocError> {
+    ) -> Result<Option<Attempt<Search<'a>>>, AllocError> {
         if splits.is_empty() || budget < LEAST_BUDGET || self.refutation.is_some() {
-            return Ok(());
+            return Ok(None);
         }
         let mut codes = first_cube(alloc, splits)?;
         let before = self.conflicts();
         let is_refuted = self.search_first_cube(alloc, codes.as_slice())?;
         if self.model.is_some() {
-            return Ok(());
+            return Ok(None);
         }
         let taken = self.conflicts().saturating_sub(before);
         if is_refuted && self.search_further(alloc, splits, &mut codes, taken)? {
-            return Ok(());
+            return Ok(None);
         }
-        self.search_itself(alloc, splits, budget.min(WHOLE_CONFLICTS))?;
-        Ok(())
+        self.search_to_hand_on(alloc, splits, budget)
     }
 }

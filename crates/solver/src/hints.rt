@@ -8,7 +8,7 @@ use total_tables::put;
 impl<'a> Search<'a> {
     /// Returns the true literal of an assigned variable. For one without a value the answer has no meaning.
     #[inline(always)]
-    pub fn true_literal(&self, variable: u32) -> u32 {
+    pub(crate) fn true_literal(&self, variable: u32) -> u32 {
         let state = self.trail.trail.state(variable);
         self.trail.trail.literal(state.place)
     }
@@ -35,7 +35,7 @@ impl<'a> Search<'a> {
     /// Gathers the hints of the learned clause. First come the reasons of literals that are true at level 0 or were left out by
     /// minimisation, in trail order, so that each becomes unit when it is reached; then the resolved clauses, from the last one back to
     /// the conflict, since propagation runs against the direction of resolution.
-    pub fn gather_hints(&mut self) -> Result<(), AllocError> {
+    pub(crate) fn gather_hints(&mut self) -> Result<(), AllocError> {
         self.needed.clear();
         for _ in 0..=self.trail.trail.count() {
             let Some(variable) = self.pending.pop() else {

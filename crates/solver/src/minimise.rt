@@ -72,7 +72,7 @@ impl<'a> Search<'a> {
     }
 
     /// Minimises the learned clause. The reasons that show a literal to be implied become hints.
-    pub fn minimise(&mut self) -> Result<(), AllocError> {
+    pub(crate) fn minimise(&mut self) -> Result<(), AllocError> {
         let levels = self.levels_of_learned();
         let mut kept: u32 = 1;
         self.removed.clear();

@@ -194,7 +194,7 @@ pub fn propagate(
 
 impl<'a> Search<'a> {
     /// Propagates to a fixed point or to a conflict, which it returns.
-    pub fn propagate(&mut self) -> Result<Option<ReasonClause>, AllocError> {
+    pub(crate) fn propagate(&mut self) -> Result<Option<ReasonClause>, AllocError> {
         propagate(
             &mut self.trail,
             &self.small,
@@ -206,7 +206,7 @@ impl<'a> Search<'a> {
 
     /// Propagates likewise, with these clauses of two and three literals: at first those of the formula, of which the search then copies only
     /// what is not true for good.
-    pub fn propagate_by(
+    pub(crate) fn propagate_by(
         &mut self,
         small: &SmallClauses,
     ) -> Result<Option<ReasonClause>, AllocError> {

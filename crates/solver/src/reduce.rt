@@ -18,14 +18,14 @@ const TIER1_LBD: u32 = 2;
 
 impl<'a> Search<'a> {
     /// Records that the clause was used in this conflict, if it is a learned one: age decides between clauses of one LBD.
-    pub fn note_use(&mut self, place: u32) {
+    pub(crate) fn note_use(&mut self, place: u32) {
         let clause = place.wrapping_sub(HEADER);
         self.store.set_used(clause, self.conflicts);
     }
 
     /// Returns the LBD (literal block distance, "glue") of the learned clause: how many different levels its literals have (Audemard and
     /// Simon, "Predicting learnt clauses quality in modern SAT solvers", 2009). The fewer, the sooner the clause propagates again.
-    pub fn lbd_of_learned(&mut self) -> u32 {
+    pub(crate) fn lbd_of_learned(&mut self) -> u32 {
         self.stamp = self.stamp.wrapping_add(1);
         let mut lbd: u32 = 0;
         for literal in &self.learned {
@@ -94,7 +94,7 @@ impl<'a> Search<'a> {
     }
 
     /// Reduces the clause database if a reduction is due.
-    pub fn reduce_in_time(&mut self) -> Result<(), AllocError> {
+    pub(crate) fn reduce_in_time(&mut self) -> Result<(), AllocError> {
         if self.conflicts < self.next_reduction {
             return Ok(());
         }

@@ -9,57 +9,62 @@ use clause_database::{
     EncodingHints, Reason, ReasonClause, SmallClause, SmallClauses, Store, Unit, Watches,
 };
 use dimacs::Lit;
+use proof_log::SharedClauses;
 use proof_log::codes::{NEVER, code_of};
 use std::alloc::{AllocError, Global};
 use total_tables::{at, put, size};
 
 /// State of one search of one cube.
 pub struct Search<'a> {
-    pub alloc: Global,
-    pub variables: u32,
+    pub(crate) alloc: Global,
+    pub(crate) variables: u32,
     /// Hints about the encoding.
-    pub encoding: EncodingHints<'a>,
+    pub(crate) encoding: EncodingHints<'a>,
 
     // The clauses.
-    pub small: SmallClauses,
-    pub store: Store,
-    pub watches: Watches,
+    pub(crate) small: SmallClauses,
+    pub(crate) store: Store,
+    pub(crate) watches: Watches,
     /// The learned clauses in the store.
-    pub clauses: Vec<u32>,
+    pub(crate) clauses: Vec<u32>,
     /// A conflict that was found and has not been analysed.
-    pub conflict: Option<ReasonClause>,
+    pub(crate) conflict: Option<ReasonClause>,
 
     // What is true, and what is decided next.
-    pub trail: OrderedTrail<'a>,
-    pub activities: Activities,
+    pub(crate) trail: OrderedTrail<'a>,
+    pub(crate) activities: Activities,
     /// Variables that are decided before all others, each as true first.
-    pub leading: Vec<u32>,
+    pub(crate) leading: Vec<u32>,
     /// If it is there, decisions follow a schedule first.
-    pub schedule: Option<ScheduleHeuristic>,
+    pub(crate) schedule: Option<ScheduleHeuristic>,
 
     // The conflict at hand.
     /// The learned clause.
-    pub learned: Vec<u32>,
+    pub(crate) learned: Vec<u32>,
     /// Its hints.
-    pub hints: Vec<u32>,
+    pub(crate) hints: Vec<u32>,
     /// Ids of the resolved clauses, the conflict's first.
-    pub resolved: Vec<u32>,
+    pub(crate) resolved: Vec<u32>,
     /// Literals that minimisation left out.
-    pub removed: Vec<u32>,
+    pub(crate) removed: Vec<u32>,
     /// Variables whose reasons are hints: those not visited yet, and the places of the others.
-    pub pending: Vec<u32>,
-    pub needed: Vec<u32>,
-    pub stack: Vec<u32>,
-    pub marks: Vec<u8>,
-    pub marked: Vec<u32>,
-    pub level_stamps: Vec<u32>,
-    pub stamp: u32,
+    pub(crate) pending: Vec<u32>,
+    pub(crate) needed: Vec<u32>,
+    pub(crate) stack: Vec<u32>,
+    pub(crate) marks: Vec<u8>,
+    pub(crate) marked: Vec<u32>,
+    pub(crate) level_stamps: Vec<u32>,
+    pub(crate) stamp: u32,
+
+    // What others are given.
+    /// Short clauses that were learned since some were last given, if this search shares what it learns.
+    pub(crate) shared: Option<SharedClauses>,
 
     // When to restart and to drop clauses.
-    pub conflicts: u32,
-    pub restarts: Restarts,
-    pub next_reduction: u32,
-    pub reduction_gap: u32,
+    pub(crate) conflicts: u32,
+    pub(crate) restarts: Restarts,
+    pub(crate) next_reduction: u32,
+    pub(crate) reduction_gap: u32,
 }
 
 /// Drops each table. With a derived `Drop` every exit of a function that owns a search would drop its 41 tables one by one, which is most of
@@ -90,6 +95,7 @@ impl Drop for Search<'_> {
             marked: _marked,
             level_stamps: _level_stamps,
             stamp: _,
+            shared: _shared,
             conflicts: _,
             restarts: _,
             next_reduction: _,
@@ -100,7 +106,7 @@ impl Drop for Search<'_> {
 
 impl<'a> Search<'a> {
     /// Begins a search of the prepared formula in the cube of these literals. Nothing is decided yet.
-    pub fn new(
+    pub(crate) fn new(
         alloc: Global,
         variables: u32,
         prepared: &PreparedFormula<'a>,
@@ -153,6 +159,7 @@ impl<'a> Search<'a> {
             marked: Vec::new(alloc),
             level_stamps: vec![in alloc; 0; places.saturating_add(1)]?,
             stamp: 0,
+            shared: None,
             conflicts: 0,
             restarts: Restarts::new(UNIT),
             next_reduction: FIRST_REDUCTION,
@@ -228,7 +235,7 @@ impl<'a> Search<'a> {
 
     /// Switches between decisions along a schedule and decisions by activity. Along a schedule a learned clause excludes one state, which
     /// would have to be excluded again, so nothing is dropped before there are as many clauses as states.
-    pub fn change_course(&mut self) -> Result<(), AllocError> {
+    pub(crate) fn change_course(&mut self) -> Result<(), AllocError> {
         let mut first = FIRST_REDUCTION;
         let mut unit = UNIT;
         let mut schedule = None;
@@ -277,7 +284,7 @@ impl<'a> Search<'a> {
     }
 
     /// Decides and propagates until there is a conflict or nothing is left to decide.
-    pub fn propagate_and_decide(&mut self) -> Result<Option<ReasonClause>, AllocError> {
+    pub(crate) fn propagate_and_decide(&mut self) -> Result<Option<ReasonClause>, AllocError> {
         if let Some(conflict) = self.conflict.take() {
             return Ok(Some(conflict));
         }
@@ -295,7 +302,7 @@ impl<'a> Search<'a> {
     }
 
     /// Backtracks to level 0 and propagates. Answers whether there is no conflict; one at level 0 is kept.
-    pub fn resume_at_root(&mut self) -> Result<bool, AllocError> {
+    pub(crate) fn resume_at_root(&mut self) -> Result<bool, AllocError> {
         if self.trail.trail.level() == 0 {
             return Ok(self.conflict.is_none());
         }
@@ -325,8 +332,9 @@ impl<'a> Search<'a> {
     }
 
     /// Backjumps to the level at which the learned clause is unit, and asserts its first literal.
-    pub fn backjump_and_assert(&mut self, id: u32) -> Result<(), AllocError> {
+    pub(crate) fn backjump_and_assert(&mut self, id: u32) -> Result<(), AllocError> {
         let lbd = self.lbd_of_learned();
+        self.share(id, lbd)?;
         let level = self.level_to_resume();
         self.trail.backtrack(level, &mut self.activities);
         let first = at(self.learned.as_slice(), 0, NEVER);
@@ -349,7 +357,7 @@ impl<'a> Search<'a> {
     }
 
     /// After a conflict: decays activities, and restarts or reduces the clause database when due.
-    pub fn after_conflict(&mut self) -> Result<(), AllocError> {
+    pub(crate) fn after_conflict(&mut self) -> Result<(), AllocError> {
         self.conflicts = self.conflicts.wrapping_add(1);
         self.activities.decay();
         if self.restarts.count() {

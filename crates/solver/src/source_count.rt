@@ -56,7 +56,7 @@ fn most_steps(found: &SourceContradiction) -> u64 {
 
 impl<'a> Search<'a> {
     /// Returns whether there is a read-modify-write.
-    pub fn has_updates(&self) -> bool {
+    pub(crate) fn has_updates(&self) -> bool {
         has_updates(self.encoding)
     }
 
@@ -137,7 +137,7 @@ impl<'a> Search<'a> {
 
     /// Returns a derivation of at most `budget` steps, if there is a contradiction of readers and sources. The log has what was learned,
     /// and nothing is decided.
-    pub fn refute_by_counting(
+    pub(crate) fn refute_by_counting(
         &mut self,
         log: &ProofLog,
         budget: u64,
@@ -153,7 +153,11 @@ impl<'a> Search<'a> {
     /// Returns an answer within the budget, if counting finds a contradiction before the search begins. The first step of its derivation
     /// has this number. If that takes more steps than the budget has, the answer is open, since a search will hardly find a derivation.
     /// Only a budget of one turn is searched: its end is near.
-    pub fn count_sources(&mut self, first: u32, budget: u64) -> Result<Option<Answer>, AllocError>
+    pub(crate) fn count_sources(
+        &mut self,
+        first: u32,
+        budget: u64,
+    ) -> Result<Option<Answer>, AllocError>
         ensures { IfOk result (λ found. IfSome found (λ answer. IsWithin budget answer)) }
     {
         if budget == 0 {

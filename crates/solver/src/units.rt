@@ -84,7 +84,11 @@ impl<'a> Search<'a> {
     }
 
     /// Returns the id of a unit clause with this literal, which is true at level 0, and adds one if there is none yet.
-    pub fn unit(&mut self, units: &mut UnitClauses, literal: u32) -> Result<u32, AllocError> {
+    pub(crate) fn unit(
+        &mut self,
+        units: &mut UnitClauses,
+        literal: u32,
+    ) -> Result<u32, AllocError> {
         let variable = literal >> 1;
         let mut id = units.id(variable);
         if id != 0 {

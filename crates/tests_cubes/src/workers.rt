@@ -4,4 +4,5 @@ mod boards;
 mod confirmations;
 mod dealings;
 mod searches;
+mod seats;
 mod stop_words;

@@ -10,7 +10,6 @@ ghost use Rattle.trace_decision.specs.Decision.{IsDecided, NamesOpen, AreCubesOf
 ghost use Rattle.trace_decision.specs.declared.decision.Decision.TheVariants.{Inconsistent};
 ghost use Rattle.trace_decision.specs.Rounds.{HaveEnded};
 
-use crate::cubes::Cubes;
 use crate::decided::Decided;
 use crate::decision::Decision;
 use crate::guide::{guide_to_order, reads_from_table};
@@ -18,11 +17,14 @@ use crate::refutation::Refutation;
 use crate::rounds::search_in_rounds;
 use clause_blocks::trace_clauses::TraceClauses;
 use cube_jobs::{Gate, Options, SearchFault};
+use cube_tree::grow;
 use dimacs::{Assignment, ClauseList, Cube};
+use plain_lists::PlainList;
 use reducer::expand::expand;
 use reducer::reduced::Reduced;
 use result_ledger::{Ledger, Verdict, inconsistent_has_no_model, unknown_holds_all_models};
 use schedule_decode::decode::schedule_of;
+use seat_rounds::search_by_seats;
 use solver::{PreparedFormula, ReadsFromTable, SourceCounter};
 use std::alloc::{AllocError, Global};
 use std::sync::Wait;
@@ -45,7 +47,11 @@ fn whole_schedule(
 }
 
 /// The cubes of these leaves, in order.
-fn cubes_of_leaves(alloc: Global, ledger: &Ledger, leaves: &[u32]) -> Result<Cubes, AllocError>
+fn cubes_of_leaves(
+    alloc: Global,
+    ledger: &Ledger,
+    leaves: &[u32],
+) -> Result<PlainList<Cube>, AllocError>
     requires { (leaf : ℕ) → Contains leaves.now leaf → leaf < length ledger.now }
     ensures { IfOk result (λ cubes. AreCubesOf ledger.now leaves.now cubes) }
 {
@@ -53,7 +59,7 @@ fn cubes_of_leaves(alloc: Global, ledger: &Ledger, leaves: &[u32]) -> Result<Cub
     for leaf in leaves {
         cubes.push(Cube::of(alloc, ledger.cube(*leaf)))?;
     }
-    Ok(Cubes::new(cubes))
+    Ok(PlainList::new(cubes))
 }
 
 /// Gives what is decided of the whole trace, by the verdict on the clauses of what is kept of it.
@@ -97,30 +103,44 @@ fn decision_of(
     }
 }
 
-/// Searches the whole formula before its cubes: what is found there answers for all of them.
-fn search_before_cubes(
+/// The depth of a full tree with a leaf for each of the four searches that share what they learn.
+const SEATS_DEPTH: u32 = 2;
+
+/// Searches the whole formula before its cubes: what is found there answers for all of them. If one search leaves it open, four go on with it.
+fn search_before_cubes<R: Threads + Wait + Sync, G: Gate>(
     alloc: Global,
+    rt: &R,
     clauses: &TraceClauses,
     prepared: &mut PreparedFormula,
     options: &Options,
-) -> Result<(), AllocError> {
-    let splits = clauses
-        .layout()
-        .first_splits(alloc, options.split() as usize)?;
-    prepared.count_whole(alloc, splits.len(), options.budget())?;
-    prepared.search_whole(alloc, splits.as_slice(), options.budget())
+    gate: &G,
+) -> Result<(), SearchFault> {
+    let layout = clauses.layout();
+    let budget = options.budget();
+    let splits = layout.first_splits(alloc, options.split() as usize)?;
+    prepared.count_whole(alloc, splits.len(), budget)?;
+    let Some(first) = prepared.search_whole(alloc, splits.as_slice(), budget)? else {
+        return Ok(());
+    };
+    let tree = grow(alloc, layout, SEATS_DEPTH)?;
+    let seats = prepared.begin_seats(alloc, first)?;
+    let answer = search_by_seats(alloc, rt, clauses, &tree, seats, budget, options, gate)?;
+    prepared.know(splits.len(), answer);
+    Ok(())
 }
 
 /// Prepares the formula of these clauses, with hints about their structure, and searches it whole.
-fn prepared_formula<'a>(
+fn prepared_formula<'a, R: Threads + Wait + Sync, G: Gate>(
     alloc: Global,
+    rt: &R,
     clauses: &TraceClauses,
     reads_from: &'a ReadsFromTable,
     options: &Options,
-) -> Result<PreparedFormula<'a>, AllocError> {
+    gate: &G,
+) -> Result<PreparedFormula<'a>, SearchFault> {
     let encoding = guide_to_order(clauses).with_reads_from(reads_from);
     let mut prepared = PreparedFormula::of(alloc, clauses, encoding)?;
-    search_before_cubes(alloc, clauses, &mut prepared, options)?;
+    search_before_cubes(alloc, rt, clauses, &mut prepared, options, gate)?;
     Ok(prepared)
 }
 
@@ -136,7 +156,7 @@ fn search_clauses<R: Threads + Wait + Sync, G: Gate + Sync>(
     ensures ended { IfOk result (λ decided. HaveEnded clauses.now options.now decided.ledger decided.verdict) }
 {
     let reads_from = reads_from_table(alloc, clauses)?;
-    let prepared = prepared_formula(alloc, clauses, &reads_from, options)?;
+    let prepared = prepared_formula(alloc, rt, clauses, &reads_from, options, gate)?;
     search_in_rounds(alloc, rt, clauses, &prepared, options, gate)
 }
 

@@ -1,6 +1,7 @@
 //! What is decided of a trace.
-use crate::cubes::Cubes;
 use crate::refutation::Refutation;
+use dimacs::Cube;
+use plain_lists::PlainList;
 use trace_semantics::schedule::Schedule;
 
 /// What is decided of a trace.
@@ -11,5 +12,5 @@ pub enum Decision {
     /// There is none, as this shows: each of the tree's cubes, which cover, is refuted.
     Inconsistent(Refutation),
     /// A legal schedule may be in these cubes, and nowhere else.
-    Unknown(Cubes),
+    Unknown(PlainList<Cube>),
 }

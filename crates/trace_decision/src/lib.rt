@@ -3,7 +3,6 @@
 #![tactic(auto)]
 
 mod certifying;
-mod cubes;
 mod decided;
 mod deciding;
 mod decision;
@@ -15,7 +14,6 @@ mod rounds;
 mod splitting;
 
 pub use certifying::write_certificate;
-pub use cubes::Cubes;
 pub use deciding::decide;
 pub use decision::Decision;
 pub use refutation::Refutation;

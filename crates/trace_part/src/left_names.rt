@@ -8,9 +8,9 @@ ghost use Rattle.trace_part.specs.Told.{groups_of};
 
 use crate::left::Left;
 use forced_order::numbered::OperationNumber;
+use plain_lists::PlainList;
 use restriction::renamed::count_up_to;
 use std::alloc::{AllocError, Global};
-use std::marker::Model;
 use trace_semantics::trace::Trace;
 
 /// A name that remains, by numbers, and its place in the part.
@@ -20,34 +20,8 @@ pub struct LeftName {
     pub new: u32,
 }
 
-/// The names that remain of a process.
-#[derive(Drop)]
-pub struct LeftNames {
-    names: Vec<LeftName>,
-}
-
-impl Model for LeftNames {
-    ghost use Rattle.std.specs.Prelude.{List};
-    ghost use Rattle.trace_part.specs.declared.left_names.LeftName.{LeftName};
-
-    ghost Value = { List LeftName };
-
-    ghost view = { λ left. left.names.items };
-}
-
-impl LeftNames {
-    ghost use Rattle.std.specs.Prelude.{◌≡◌};
-
-    /// Returns the names as a slice.
-    pub fn as_slice(&self) -> &[LeftName]
-        ensures { result.now ≡ self.now }
-    {
-        self.names.as_slice()
-    }
-}
-
 /// Returns the names that remain of the process of this number.
-fn names_in(alloc: Global, left: &Left, number: u16) -> Result<LeftNames, AllocError>
+fn names_in(alloc: Global, left: &Left, number: u16) -> Result<PlainList<LeftName>, AllocError>
     ensures { IfOk result (λ names. names ≡ map (row_at_place number left.now.places) left.now.places) }
 {
     let places = left.places();
@@ -62,11 +36,15 @@ fn names_in(alloc: Global, left: &Left, number: u16) -> Result<LeftNames, AllocE
             new,
         })?;
     }
-    Ok(LeftNames { names })
+    Ok(PlainList::new(names))
 }
 
 /// Returns the names that remain of each process.
-pub fn left_groups(alloc: Global, trace: &Trace, all: &[Left]) -> Result<Vec<LeftNames>, AllocError>
+pub fn left_groups(
+    alloc: Global,
+    trace: &Trace,
+    all: &[Left],
+) -> Result<Vec<PlainList<LeftName>>, AllocError>
     requires { length all.now ≡ length trace.now.processes }
     ensures { IfOk result (λ groups. (stays : Named → Option Old) → Leaves trace.now stays all.now → groups.items ≡ groups_of trace.now stays) }
 {

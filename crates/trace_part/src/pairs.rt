@@ -14,9 +14,10 @@ ghost use Rattle.trace_part.specs.Told as told;
 ghost use Rattle.trace_part.specs.declared.left_names.LeftName.{LeftName as Row};
 
 use crate::left::Left;
-use crate::left_names::{LeftName, LeftNames, left_groups};
+use crate::left_names::{LeftName, left_groups};
 use forced_order::forced_order::ForcedOrder;
 use forced_order::times::ended_before;
+use plain_lists::PlainList;
 use std::alloc::{AllocError, Global};
 use trace_semantics::name::Name;
 use trace_semantics::operation::OpName;
@@ -83,7 +84,7 @@ fn push_told_of(
     order: &ForcedOrder,
     m: LeftName,
     next: Option<LeftName>,
-    groups: &[LeftNames],
+    groups: &[PlainList<LeftName>],
 ) -> Result<(), AllocError>
     requires forward { told.AreForwardFrom order.now m groups.now }
     ensures { OnOk result (pairs.new.items ≡ pairs.old.items ++ told.told_of order.now m next groups.now) }
@@ -107,7 +108,7 @@ fn push_told_from(
     pairs: &mut Vec<(LeftName, LeftName)>,
     order: &ForcedOrder,
     group: &[LeftName],
-    groups: &[LeftNames],
+    groups: &[PlainList<LeftName>],
 ) -> Result<(), AllocError>
     requires forward { told.IsGroupForward order.now groups.now group.now }
     ensures { OnOk result (pairs.new.items ≡ pairs.old.items ++ told.told_from order.now groups.now group.now) }
@@ -122,7 +123,7 @@ fn push_told_from(
 fn told_pairs(
     alloc: Global,
     order: &ForcedOrder,
-    groups: &[LeftNames],
+    groups: &[PlainList<LeftName>],
 ) -> Result<Vec<(LeftName, LeftName)>, AllocError>
     requires forward { told.AreForward order.now groups.now }
     ensures { IfOk result (λ pairs. pairs.items ≡ told.told_pairs order.now groups.now) }

@@ -4,53 +4,16 @@ ghost use Rattle.std.specs.Prelude.{◌<◌, length, OnOk};
 ghost use Rattle.trace_part.specs.WriterTables.{HasOneMoreAt};
 
 use crate::writers::ChosenWriter;
+use plain_lists::PlainList;
 use std::alloc::{AllocError, Global};
-use std::marker::Model;
 use trace_semantics::name_table::NameTable;
 
-/// The writers of one location.
-#[derive(Drop)]
-pub struct Writers {
-    rows: Vec<ChosenWriter>,
-}
-
-impl Model for Writers {
-    ghost use Rattle.std.specs.Prelude.{List};
-    ghost use Rattle.trace_part.specs.declared.writers.ChosenWriter.{ChosenWriter};
-
-    ghost Value = { List ChosenWriter };
-
-    ghost view = { λ writers. writers.rows.items };
-}
-
-impl Writers {
-    ghost use Rattle.std.specs.Prelude.{◌≡◌, [], ◌∷◌, ◌++◌, OnOk};
-
-    /// Returns the list of no writers.
-    fn new(alloc: Global) -> Writers
-        ensures { result ≡ [] }
-    {
-        Writers {
-            rows: Vec::new(alloc),
-        }
-    }
-
-    fn push(&mut self, row: ChosenWriter) -> Result<(), AllocError>
-        ensures { OnOk result (self.new ≡ self.old ++ row ∷ []) }
-    {
-        self.rows.push(row)?;
-        Ok(())
-    }
-
-    fn as_slice(&self) -> &[ChosenWriter]
-        ensures { result.now ≡ self.now }
-    {
-        self.rows.as_slice()
-    }
-}
-
 /// Appends a writer to the list under this number.
-fn push_at(lists: &mut Vec<Writers>, number: usize, row: ChosenWriter) -> Result<(), AllocError>
+fn push_at(
+    lists: &mut Vec<PlainList<ChosenWriter>>,
+    number: usize,
+    row: ChosenWriter,
+) -> Result<(), AllocError>
     requires within { number < length lists.old.items }
     ensures { OnOk result (HasOneMoreAt lists.old.items lists.new.items number row) }
 {
@@ -61,7 +24,7 @@ fn push_at(lists: &mut Vec<Writers>, number: usize, row: ChosenWriter) -> Result
 #[derive(Drop)]
 pub struct WriterTable<'a> {
     numbers: NameTable<'a>,
-    lists: Vec<Writers>,
+    lists: Vec<PlainList<ChosenWriter>>,
 }
 
 impl<'a> WriterTable<'a> {
@@ -92,7 +55,7 @@ impl<'a> WriterTable<'a> {
         ensures same { OnOk result ((q : List ℕ) → writers_at self.new q ≡ writers_at self.old q) }
     {
         let number = self.lists.len() as u64;
-        self.lists.push(Writers::new(alloc))?;
+        self.lists.push(PlainList::empty(alloc))?;
         self.numbers.insert(location, number)?;
         Ok(number)
     }
@@ -126,14 +89,14 @@ impl<'a> WriterTable<'a> {
     }
 
     /// Returns the list under a number, if there is one.
-    fn list(&self, number: u64) -> Option<&Writers>
+    fn list(&self, number: u64) -> Option<&PlainList<ChosenWriter>>
         ensures { option_copied result ≡ slice_get self.now.lists.items number }
     {
         self.lists.get(number as usize)
     }
 
     /// Returns the writers of the location, if there are any.
-    fn listed(&self, location: &'a [u8]) -> Option<&Writers>
+    fn listed(&self, location: &'a [u8]) -> Option<&PlainList<ChosenWriter>>
         ensures { option_copied result ≡ option_and_then (slice_get self.now.lists.items) (number_of self.now.numbers location.now) }
     {
         match self.numbers.get(location) {

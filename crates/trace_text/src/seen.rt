@@ -20,7 +20,7 @@ use trace_semantics::limits::{Limits, MAX_PROCESSES};
 use trace_semantics::name_table::NameTable;
 
 /// What must be known of the earlier lines to judge the next one: the names that they name, and the number of each kind. The tables are
-/// used as sets: the number under a name is not read.
+/// used as sets: the number under a name is not read. Contracts see it field by field; of which lines its fields speak is what `IsSeen` says.
 pub struct Seen<'a> {
     initial: NameTable<'a>,
     final_values: NameTable<'a>,

@@ -8,19 +8,10 @@ use trace_semantics::operation::OpName;
 use trace_semantics::trace::Trace;
 
 /// The part of a trace, with the places of its operations in the whole.
+#[derive(Drop)]
 pub struct CorePart {
     part: TracePart,
     places: ShownPlaces,
-}
-
-/// Drops the part and the places, in one call at each exit of a function that owns them.
-impl Drop for CorePart {
-    fn drop(self) {
-        let CorePart {
-            part: _part,
-            places: _places,
-        } = self;
-    }
 }
 
 impl CorePart {

@@ -137,7 +137,7 @@ fn push_others(
     Ok(())
 }
 
-/// The words of the orders. A cube without literals, of a search that was not split, leaves every order open.
+/// The words of the orders, byte by byte those of `orders_text`. A cube without literals, of a search that was not split, leaves every order open.
 fn text_of_orders(
     alloc: Global,
     ops: &[KeptOp<'_>],

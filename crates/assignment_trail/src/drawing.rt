@@ -1,0 +1,10 @@
+//! Numbers that look random, and are the same in each run.
+
+/// Returns a number for this one, as the seed has it.
+pub(crate) fn drawn(seed: u32, number: u32) -> u32 {
+    let mut mixed = number.wrapping_add(1).wrapping_mul(0x9e37_79b1)
+        ^ seed.wrapping_add(1).wrapping_mul(0x85eb_ca6b);
+    mixed = (mixed ^ (mixed >> 15)).wrapping_mul(0x2c1b_3c6d);
+    mixed = (mixed ^ (mixed >> 12)).wrapping_mul(0x297a_2d39);
+    mixed ^ (mixed >> 15)
+}

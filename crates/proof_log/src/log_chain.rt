@@ -1,0 +1,90 @@
+//! Logs of several searches that make one derivation.
+
+ghost use Rattle.std.specs.Prelude.{◌≡◌, ◌≤◌, ◌+◌, length, IfOk, OnOk};
+
+use crate::proof_log::{ProofLog, mark};
+use lrat_check::derivation::{Derivation, Step};
+use std::alloc::{AllocError, Global};
+use std::marker::Model;
+
+/// Logs one after the other, where what an addition rests on has a smaller number, and stands in the same log or in an earlier one. Contracts see
+/// the number of all additions.
+pub struct LogChain {
+    /// The number of the first addition.
+    first: u32,
+    logs: Vec<ProofLog>,
+}
+
+/// Drops the logs in one call.
+impl Drop for LogChain {
+    fn drop(self) {
+        let LogChain {
+            first: _,
+            logs: _logs,
+        } = self;
+    }
+}
+
+impl Model for LogChain {
+    ghost use Rattle.std.specs.Prelude.{ℕ};
+    ghost use Rattle.std.specs.List.{sum};
+
+    ghost Value = { ℕ };
+
+    ghost view = { λ chain. sum chain.logs.items };
+}
+
+impl LogChain {
+    /// Starts without logs. No addition has a number below this one.
+    pub fn new(alloc: Global, first: u32) -> LogChain
+        ensures { result ≡ 0 }
+    {
+        LogChain {
+            first,
+            logs: Vec::new(alloc),
+        }
+    }
+
+    /// Adds a log behind the others.
+    pub fn push(&mut self, log: ProofLog) -> Result<(), AllocError>
+        ensures { OnOk result (self.new ≡ self.old + log) }
+    {
+        self.logs.push(log)?;
+        Ok(())
+    }
+
+    /// Returns one more than the largest number of an addition, counted from the first number.
+    fn width(&self) -> u32 {
+        let mut width = 0;
+        for log in &self.logs {
+            width = width.max(log.next_id().wrapping_sub(self.first));
+        }
+        width
+    }
+
+    /// Returns 1 for each addition on which the clause of this number rests, by its number from the first one on.
+    fn needed(&self, alloc: Global, clause: u32) -> Result<Vec<u8>, AllocError> {
+        let mut needed = vec![in alloc; 0; self.width() as usize]?;
+        mark(&[clause], self.first, needed.as_mut_slice());
+        for log in self.logs.iter().rev() {
+            log.mark_needed(self.first, needed.as_mut_slice());
+        }
+        Ok(needed)
+    }
+
+    /// Returns the derivation of the clause of this number, trimmed to the additions on which it rests. If there is no memory to mark these, it has
+    /// all of them.
+    pub fn derivation(&self, alloc: Global, clause: u32) -> Result<Derivation, AllocError>
+        ensures { IfOk result (λ derivation. length derivation ≤ self.now) }
+    {
+        let needed = match self.needed(alloc, clause) {
+            Ok(needed) => needed,
+            Err(_) => Vec::new(alloc),
+        };
+        let mut steps = Vec::new(alloc);
+        for log in &self.logs {
+            log.push_marked(alloc, self.first, needed.as_slice(), &mut steps)?;
+        }
+        Ok(Derivation::new(steps))
+    }
+}

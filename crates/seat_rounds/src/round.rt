@@ -1,0 +1,48 @@
+//! A round: what its jobs share.
+
+ghost use Rattle.proof_log.specs.Answers.{IsWithin};
+
+use crate::seat::Seat;
+use dimacs::Lit;
+use proof_log::{Answer, CubeSolver, SharedClauses, SharingLearner};
+use std::alloc::{AllocError, Global};
+use std::sync::Mutex;
+
+/// The seats, each of which the job of one leaf runs, what they gave after the round before, and how many conflicts a seat may have.
+#[derive(Drop)]
+pub(crate) struct Round<S> {
+    pub(crate) seats: Vec<Mutex<Seat<S>>>,
+    pub(crate) given: Vec<SharedClauses>,
+    pub(crate) conflicts: u64,
+}
+
+/// Returns the number of the leaf of this cube in a full tree.
+fn leaf_of(cube: &[Lit]) -> usize {
+    let mut leaf: usize = 0;
+    for literal in cube {
+        leaf = leaf.wrapping_mul(2);
+        if !literal.is_positive() {
+            leaf = leaf.wrapping_add(1);
+        }
+    }
+    leaf
+}
+
+impl<S: SharingLearner + Drop> CubeSolver for Round<S> {
+    fn solve(&self, _alloc: Global, cube: &[Lit], _budget: u64) -> Result<Answer, AllocError> {
+        let number = leaf_of(cube);
+        let Some(slot) = self.seats.get(number) else {
+            return Ok(Answer::Open);
+        };
+        // A leaf is dealt once, so its seat is free.
+        if let Some(mut guard) = slot.try_lock() {
+            let seat = &mut *guard;
+            seat.run(number, self.given.as_slice(), self.conflicts);
+        }
+        Ok(Answer::Open)
+    }
+
+    fn take_conflicts(&self) -> u64 {
+        0
+    }
+}

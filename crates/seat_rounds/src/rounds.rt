@@ -1,0 +1,95 @@
+//! Rounds, until there is an answer or the budget is used up.
+
+ghost use Rattle.std.specs.Prelude.{IfOk};
+ghost use Rattle.cube_jobs.specs.Results.{AreLeaves};
+ghost use Rattle.cube_tree.specs.CubeTree.{cubes_of};
+ghost use Rattle.proof_log.specs.Answers.{IsWithin};
+
+use crate::leaves::leaves_of;
+use crate::seats::Seats;
+use cube_jobs::{Gate, OpenGate, Options, SearchFault};
+use cube_queue::search;
+use cube_tree::Tree;
+use dimacs::ClauseList;
+use proof_log::{Answer, Attempt, SharingLearner};
+use std::alloc::Global;
+use std::sync::Wait;
+use std::thread::Threads;
+
+/// Conflicts of a seat in a round. Fewer would share sooner what is learned, but each seat goes back to level 0 for it.
+const ROUND_CONFLICTS: u64 = 200;
+
+/// Runs a round: each of these leaves stands for a seat. Returns how many conflicts there were.
+fn run_round<R: Threads + Wait + Sync, L: ClauseList + Sync, S: SharingLearner + Drop + Send>(
+    alloc: Global,
+    rt: &R,
+    formula: &L,
+    tree: &Tree,
+    leaves: &[u32],
+    seats: &mut Seats<S>,
+    conflicts: u64,
+    options: &Options,
+) -> Result<u64, SearchFault>
+    requires { AreLeaves (cubes_of tree.now) leaves.now }
+{
+    seats.begin_round(conflicts)?;
+    let _results = search(
+        alloc,
+        rt,
+        formula,
+        &seats.round,
+        tree,
+        leaves,
+        options,
+        &OpenGate,
+    )?;
+    Ok(seats.additions())
+}
+
+/// Goes on with these searches of the formula, in rounds, until one has an answer or all together have had `budget` conflicts, with those that
+/// the first of them has had already. The lowest one that has an answer wins. After each round they exchange what they have learned. A search whose
+/// number is not that of a leaf of the tree waits. Each round is searched by the workers of the options, and the gate gets its conflicts.
+pub fn search_by_seats<
+    R: Threads + Wait + Sync,
+    L: ClauseList + Sync,
+    S: SharingLearner + Drop + Send,
+    G: Gate,
+>(
+    alloc: Global,
+    rt: &R,
+    formula: &L,
+    tree: &Tree,
+    searches: Vec<Attempt<S>>,
+    budget: u64,
+    options: &Options,
+    gate: &G,
+) -> Result<Answer, SearchFault>
+    ensures { IfOk result (λ answer. IsWithin budget answer) }
+{
+    let leaves = leaves_of(alloc, tree)?;
+    let count = searches.len().max(1) as u64;
+    let mut seats = Seats::new(alloc, searches)?;
+    let mut left = budget.saturating_sub(seats.additions());
+    for _ in 0..budget {
+        let conflicts = ROUND_CONFLICTS.min(left / count);
+        if conflicts == 0 {
+            return Ok(Answer::Open);
+        }
+        left = left.saturating_sub(conflicts.saturating_mul(count));
+        let had = run_round(
+            alloc,
+            rt,
+            formula,
+            tree,
+            leaves.as_slice(),
+            &mut seats,
+            conflicts,
+            options,
+        )?;
+        gate.conflicts(had);
+        if let Some(answer) = seats.answer(budget)? {
+            return Ok(answer);
+        }
+    }
+    Ok(Answer::Open)
+}

@@ -1,0 +1,120 @@
+//! The seats between two rounds, and all that they have learned.
+
+ghost use Rattle.std.specs.Prelude.{IfOk, IfSome};
+ghost use Rattle.proof_log.specs.Answers.{IsWithin};
+
+use crate::round::Round;
+use crate::seat::Seat;
+use proof_log::{Answer, Attempt, LogChain, SearchEnd, SharingLearner, refuted_within};
+use std::alloc::{AllocError, Global};
+use std::sync::Mutex;
+
+/// The seats, with the logs of all rounds before the last one.
+#[derive(Drop)]
+pub(crate) struct Seats<S> {
+    alloc: Global,
+    pub(crate) round: Round<S>,
+    chain: LogChain,
+    /// A number that no addition has, and none after it.
+    next: u32,
+}
+
+impl<S: SharingLearner + Drop> Seats<S> {
+    /// Starts with these searches. Only the first may have learned clauses already.
+    pub(crate) fn new(alloc: Global, attempts: Vec<Attempt<S>>) -> Result<Seats<S>, AllocError> {
+        let mut first = 0;
+        let mut next = 0;
+        if let Some(attempt) = attempts.first() {
+            first = attempt.log.first_id();
+            next = attempt.log.next_id();
+        }
+        let mut seats = Vec::with_capacity(alloc, attempts.len())?;
+        for attempt in attempts {
+            seats.push(Mutex::new(Seat::new(attempt)))?;
+        }
+        Ok(Seats {
+            alloc,
+            round: Round {
+                seats,
+                given: Vec::new(alloc),
+                conflicts: 0,
+            },
+            chain: LogChain::new(alloc, first),
+            next,
+        })
+    }
+
+    /// Returns how many additions the seats have made in the last round.
+    pub(crate) fn additions(&mut self) -> u64 {
+        let mut additions: u64 = 0;
+        for slot in self.round.seats.iter_mut() {
+            let seat = slot.get_mut();
+            additions = additions.saturating_add(seat.attempt.log.additions());
+        }
+        additions
+    }
+
+    /// Puts the logs of the last round behind those of the rounds before, by the number of the seat. Each seat begins a log for a round of this
+    /// many conflicts, with numbers that no other has.
+    fn collect_logs(&mut self, conflicts: u64) -> Result<(), AllocError> {
+        let step = u32::try_from(conflicts).unwrap_or(u32::MAX);
+        for slot in self.round.seats.iter_mut() {
+            let seat = slot.get_mut();
+            self.chain.push(seat.begin_log(self.next))?;
+            self.next = self.next.wrapping_add(step);
+        }
+        Ok(())
+    }
+
+    /// Collects what each seat has learned in the last round and gives to the others.
+    fn collect_clauses(&mut self) -> Result<(), AllocError> {
+        self.round.given.clear();
+        for slot in self.round.seats.iter_mut() {
+            let seat = slot.get_mut();
+            self.round.given.push(seat.attempt.give())?;
+        }
+        Ok(())
+    }
+
+    /// Makes all ready for a round in which each seat has at most this many conflicts.
+    pub(crate) fn begin_round(&mut self, conflicts: u64) -> Result<(), AllocError> {
+        self.collect_logs(conflicts)?;
+        self.collect_clauses()?;
+        self.round.conflicts = conflicts;
+        Ok(())
+    }
+
+    /// Returns the derivation of the clause of this number, the empty one, as an answer.
+    fn refutation(&mut self, clause: u32, budget: u64) -> Result<Answer, AllocError>
+        ensures { IfOk result (λ answer. IsWithin budget answer) }
+    {
+        self.collect_logs(0)?;
+        let derivation = self.chain.derivation(self.alloc, clause)?;
+        match refuted_within(derivation, budget) {
+            Some(answer) => Ok(answer),
+            None => Ok(Answer::Open),
+        }
+    }
+
+    /// Returns the answer of the first seat that has one: a model, or a derivation of at most `budget` steps.
+    pub(crate) fn answer(&mut self, budget: u64) -> Result<Option<Answer>, AllocError>
+        ensures { IfOk result (λ found. IfSome found (λ answer. IsWithin budget answer)) }
+    {
+        for slot in self.round.seats.iter_mut() {
+            let seat = slot.get_mut();
+            match seat.end {
+                Some(SearchEnd::Satisfied) => {
+                    let model = seat.attempt.model()?;
+                    return Ok(Some(Answer::Model(model)));
+                }
+                Some(SearchEnd::Refuted) => {
+                    let clause = seat.attempt.log.next_id().wrapping_sub(1);
+                    let answer = self.refutation(clause, budget)?;
+                    return Ok(Some(answer));
+                }
+                _ => (),
+            }
+        }
+        Ok(None)
+    }
+}

@@ -1,0 +1,104 @@
+//! What a search gives to others of the same formula, and what it takes in of theirs (Hamadi, Jabbour and Sais, "ManySAT: a parallel SAT
+//! solver", 2009).
+
+use crate::search::Search;
+use assignment_trail::{FALSE, OPEN, TRUE};
+use clause_database::{Reason, ReasonClause};
+use proof_log::codes::NEVER;
+use proof_log::{SharedClause, SharedClauses, SharingLearner};
+use std::alloc::AllocError;
+use total_tables::{at, put, size};
+
+/// Clauses with more levels than this are not given: they seldom propagate.
+const MAX_SHARED_LBD: u32 = 8;
+
+/// Longer ones are not given either: each of the others would have to watch them.
+const MAX_SHARED_LITERALS: usize = 40;
+
+impl<'a> Search<'a> {
+    /// From now on this search keeps the short clauses that it learns, to give them to others.
+    pub(crate) fn begin_to_share(&mut self) {
+        if self.shared.is_none() {
+            self.shared = Some(SharedClauses::new(self.alloc));
+        }
+    }
+
+    /// Keeps the last learned clause, which has this number and this LBD, if it is short.
+    pub(crate) fn share(&mut self, id: u32, lbd: u32) -> Result<(), AllocError> {
+        if lbd > MAX_SHARED_LBD || self.learned.len() > MAX_SHARED_LITERALS {
+            return Ok(());
+        }
+        match &mut self.shared {
+            Some(shared) => shared.add(self.learned.as_slice(), id, lbd),
+            None => Ok(()),
+        }
+    }
+
+    /// Puts the literals of the clause into `learned`, those that are open first. Returns how many are open, or none if one is true, since such a
+    /// clause says nothing more.
+    fn open_first(&mut self, literals: &[u32]) -> Result<Option<u32>, AllocError> {
+        self.learned.clear();
+        self.learned.extend_from_slice(literals)?;
+        let mut open: u32 = 0;
+        for place in 0..size(literals) {
+            let literal = at(literals, place, NEVER);
+            let value = self.trail.value(literal);
+            if value == TRUE {
+                return Ok(None);
+            }
+            if value == OPEN {
+                let other = at(self.learned.as_slice(), open, NEVER);
+                put(self.learned.as_mut_slice(), open, literal);
+                put(self.learned.as_mut_slice(), place, other);
+                open = open.wrapping_add(1);
+            }
+        }
+        Ok(Some(open))
+    }
+
+    /// Adds a clause of another search, at level 0. One literal that is open becomes true, and without any the clause is the conflict.
+    fn take_clause(&mut self, clause: SharedClause<'_>) -> Result<(), AllocError> {
+        let Some(open) = self.open_first(clause.literals)? else {
+            return Ok(());
+        };
+        let place = self.store.end();
+        self.store.add(
+            self.learned.as_slice(),
+            clause.id,
+            clause.lbd,
+            self.conflicts,
+        )?;
+        match open {
+            0 => self.conflict = Some(self.store.reason(place)),
+            1 => self.trail.assign(
+                at(self.learned.as_slice(), 0, NEVER),
+                Reason::Stored { place },
+            ),
+            _ => {
+                self.watches.attach(&self.store, place)?;
+                self.clauses.push(place)?;
+            }
+        }
+        Ok(())
+    }
+}
+
+impl<'a> SharingLearner for Search<'a> {
+    fn give(&mut self) -> SharedClauses {
+        let nothing = SharedClauses::new(self.alloc);
+        match self.shared.replace(nothing) {
+            Some(shared) => shared,
+            None => SharedClauses::new(self.alloc),
+        }
+    }
+
+    fn take(&mut self, clauses: &SharedClauses) -> Result<(), AllocError> {
+        for place in 0..clauses.count() {
+            if !self.resume_at_root()? {
+                return Ok(());
+            }
+            self.take_clause(clauses.clause(place))?;
+        }
+        Ok(())
+    }
+}
