@@ -11,7 +11,7 @@ use std::sync::Wait;
 use text_lines::plain_fault::PlainFault;
 
 /// Gathers the given number of results, in the order in which they come. `Cut` if the channel ends before, which it does once all workers have left.
-/// Room for all is made first, so that no result is taken out of the channel and then lost for want of memory.
+/// Room for all is made first, so that no result is taken out of the channel and then lost for lack of memory.
 pub(crate) fn gather_all<R: Wait>(
     alloc: Global,
     rt: &R,
