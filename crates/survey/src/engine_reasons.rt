@@ -1,15 +1,41 @@
 //! Certificates of reasons of what the order engine has refuted.
 
 use crate::local_reads::ReducedLog;
-use crate::reading::log_names;
 use numbered_log::{NumberedLog, OperationId};
 use order_certificate::{
-    OrderCertificate, certificate_of_conflict, certificate_of_learning, certificate_of_takers,
+    LogNames, NamedPlace, OrderCertificate, certificate_of_conflict, certificate_of_learning,
+    certificate_of_takers,
 };
 use order_propagation::Propagation;
 use schedule_search::ScheduleSearch;
 use std::alloc::{AllocError, Global};
+use trace_log::location_names;
 use trace_semantics::trace::Trace;
+
+/// The names of the log that is made of the trace, of its operations those of these numbers.
+fn log_names<'a>(
+    alloc: Global,
+    trace: &'a Trace,
+    log: &NumberedLog,
+    operations: &[OperationId],
+) -> Result<LogNames<'a>, AllocError> {
+    let mut names = LogNames {
+        processes: Vec::new(alloc),
+        locations: location_names(alloc, trace)?,
+        operations: Vec::new(alloc),
+    };
+    for number in operations {
+        let operation = log.operation(*number);
+        names.operations.push(NamedPlace {
+            process: operation.process,
+            place: operation.place,
+        })?;
+    }
+    for process in trace.processes() {
+        names.processes.push(process.name.as_bytes())?;
+    }
+    Ok(names)
+}
 
 /// A certificate of the log without repeated local reads, which is one of the whole: the reads that were left out are in none of its lines.
 #[derive(Drop)]

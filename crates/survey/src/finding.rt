@@ -7,7 +7,6 @@ use crate::engine_reasons::{TraceCertificate, certificate_of};
 use crate::given_order::GivenOrder;
 use crate::local_reads::ReducedLog;
 use crate::purse::Purse;
-use crate::reading::{log_of, names_of, numbers_of_names};
 use crate::shrinking::Core;
 use numbered_log::{Budget, NumberedLog, OperationId};
 use order_propagation::Propagation;
@@ -15,6 +14,7 @@ use schedule_search::{ScheduleSearch, SearchEnding};
 use std::alloc::{AllocError, Global};
 use surveyor::{Extent, Finding, Overview, Surveyor};
 use total_tables::size;
+use trace_log::{log_of, names_of, numbers_of_names};
 use trace_semantics::operation::OpName;
 use trace_semantics::trace::Trace;
 

@@ -13,8 +13,6 @@ mod given_order;
 mod local_reads;
 mod part;
 mod purse;
-mod reading;
 mod shrinking;
-mod time_pairs;
 
 pub use finding::BySaturation;

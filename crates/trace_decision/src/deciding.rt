@@ -15,6 +15,7 @@ use crate::decision::Decision;
 use crate::guide::{guide_to_order, reads_from_table};
 use crate::refutation::Refutation;
 use crate::rounds::search_in_rounds;
+use beam_model::model_by_beams;
 use clause_blocks::trace_clauses::TraceClauses;
 use cube_jobs::{Gate, Options, SearchFault};
 use cube_tree::grow;
@@ -25,11 +26,12 @@ use reducer::reduced::Reduced;
 use result_ledger::{Ledger, Verdict, inconsistent_has_no_model, unknown_holds_all_models};
 use schedule_decode::decode::schedule_of;
 use seat_rounds::search_by_seats;
-use solver::{PreparedFormula, ReadsFromTable, SourceCounter};
+use solver::{Answer, PreparedFormula, ReadsFromTable, SourceCounter};
 use std::alloc::{AllocError, Global};
 use std::sync::Wait;
 use std::thread::Threads;
 use trace_semantics::schedule::Schedule;
+use trace_semantics::trace::Trace;
 
 /// The schedule of the whole trace in which a model puts the kept operations. It is legal. The model is not tried again.
 fn whole_schedule(
@@ -106,15 +108,24 @@ fn decision_of(
 /// The depth of a full tree with a leaf for each of the four searches that share what they learn.
 const SEATS_DEPTH: u32 = 2;
 
-/// Searches the whole formula before its cubes: what is found there answers for all of them. If one search leaves it open, four go on with it.
+/// The trace that is searched, and its clauses.
+#[derive(Clone, Copy)]
+struct KeptTrace<'a> {
+    trace: &'a Trace,
+    clauses: &'a TraceClauses,
+}
+
+/// Searches the whole formula before its cubes: what is found there answers for all of them. If one search leaves it open, beams look for a schedule,
+/// and if they find none, four searches go on with that one.
 fn search_before_cubes<R: Threads + Wait + Sync, G: Gate>(
     alloc: Global,
     rt: &R,
-    clauses: &TraceClauses,
+    kept: KeptTrace<'_>,
     prepared: &mut PreparedFormula,
     options: &Options,
     gate: &G,
 ) -> Result<(), SearchFault> {
+    let clauses = kept.clauses;
     let layout = clauses.layout();
     let budget = options.budget();
     let splits = layout.first_splits(alloc, options.split() as usize)?;
@@ -122,6 +133,10 @@ fn search_before_cubes<R: Threads + Wait + Sync, G: Gate>(
     let Some(first) = prepared.search_whole(alloc, splits.as_slice(), budget)? else {
         return Ok(());
     };
+    if let Some(model) = model_by_beams(alloc, kept.trace, clauses)? {
+        prepared.know(splits.len(), Answer::Model(model));
+        return Ok(());
+    }
     let tree = grow(alloc, layout, SEATS_DEPTH)?;
     let seats = prepared.begin_seats(alloc, first)?;
     let answer = search_by_seats(alloc, rt, clauses, &tree, seats, budget, options, gate)?;
@@ -129,25 +144,26 @@ fn search_before_cubes<R: Threads + Wait + Sync, G: Gate>(
     Ok(())
 }
 
-/// Prepares the formula of these clauses, with hints about their structure, and searches it whole.
+/// Prepares the formula of the clauses, with hints about their structure, and searches it whole.
 fn prepared_formula<'a, R: Threads + Wait + Sync, G: Gate>(
     alloc: Global,
     rt: &R,
-    clauses: &TraceClauses,
+    kept: KeptTrace<'_>,
     reads_from: &'a ReadsFromTable,
     options: &Options,
     gate: &G,
 ) -> Result<PreparedFormula<'a>, SearchFault> {
-    let encoding = guide_to_order(clauses).with_reads_from(reads_from);
-    let mut prepared = PreparedFormula::of(alloc, clauses, encoding)?;
-    search_before_cubes(alloc, rt, clauses, &mut prepared, options, gate)?;
+    let encoding = guide_to_order(kept.clauses).with_reads_from(reads_from);
+    let mut prepared = PreparedFormula::of(alloc, kept.clauses, encoding)?;
+    search_before_cubes(alloc, rt, kept, &mut prepared, options, gate)?;
     Ok(prepared)
 }
 
-/// Prepares the formula of these clauses, and searches its cubes in rounds.
+/// Prepares the formula of these clauses, which are those of what is kept of the trace, and searches its cubes in rounds.
 fn search_clauses<R: Threads + Wait + Sync, G: Gate + Sync>(
     alloc: Global,
     rt: &R,
+    reduced: &Reduced,
     clauses: &TraceClauses,
     options: &Options,
     gate: &G,
@@ -156,7 +172,11 @@ fn search_clauses<R: Threads + Wait + Sync, G: Gate + Sync>(
     ensures ended { IfOk result (λ decided. HaveEnded clauses.now options.now decided.ledger decided.verdict) }
 {
     let reads_from = reads_from_table(alloc, clauses)?;
-    let prepared = prepared_formula(alloc, rt, clauses, &reads_from, options, gate)?;
+    let kept = KeptTrace {
+        trace: reduced.kept(),
+        clauses,
+    };
+    let prepared = prepared_formula(alloc, rt, kept, &reads_from, options, gate)?;
     search_in_rounds(alloc, rt, clauses, &prepared, options, gate)
 }
 
@@ -218,7 +238,7 @@ pub fn decide<R: Threads + Wait + Sync, G: Gate + Sync>(
     ensures { IfOk result (λ decision. IsDecided options.now reduced.now.whole decision) }
 {
     let clauses = TraceClauses::of(alloc, reduced)?;
-    let decided = search_clauses(alloc, rt, &clauses, options, gate)?;
+    let decided = search_clauses(alloc, rt, reduced, &clauses, options, gate)?;
     let decision = decision_of(alloc, reduced, &clauses, options, decided)?;
     if let Decision::Unknown(_) = &decision {
         if let Some(refutation) = refute_by_counting(alloc, rt, reduced, &clauses, options, gate)? {

@@ -1,11 +1,10 @@
-//! A trace as a log of numbers, and names by number.
+//! A trace as a log of numbers, and the names of these.
 
 use crate::time_pairs::add_times;
 use numbered_log::{
     LocationId, NO_NUMBER, NOBODY, NumberedLog, NumberedOrigin, NumberedPair, Operation,
     OperationId, ProcessId, ProcessPlace,
 };
-use order_certificate::{LogNames, NamedPlace};
 use std::alloc::{AllocError, Global};
 use total_tables::{at, size};
 use trace_semantics::name::Name;
@@ -238,28 +237,11 @@ pub fn numbers_of_names(
     Ok(numbers)
 }
 
-/// The names of the log that is made of the trace, of its operations those of these numbers.
-pub fn log_names<'a>(
-    alloc: Global,
-    trace: &'a Trace,
-    log: &NumberedLog,
-    operations: &[OperationId],
-) -> Result<LogNames<'a>, AllocError> {
+/// The names of the log's locations, by number.
+pub fn location_names<'a>(alloc: Global, trace: &'a Trace) -> Result<Vec<&'a [u8]>, AllocError> {
     let locations = locations_of(alloc, trace)?;
-    let mut names = LogNames {
-        processes: Vec::new(alloc),
-        locations: Vec::new(alloc),
-        operations: Vec::new(alloc),
-    };
-    for number in operations {
-        let operation = log.operation(*number);
-        names.operations.push(NamedPlace {
-            process: operation.process,
-            place: operation.place,
-        })?;
-    }
+    let mut names = Vec::new(alloc);
     for process in trace.processes() {
-        names.processes.push(process.name.as_bytes())?;
         for op in process.operations.as_slice() {
             add_location(&mut names, &locations, op.location())?;
         }
@@ -272,12 +254,12 @@ pub fn log_names<'a>(
 
 /// Adds the name of the location that comes next.
 fn add_location<'a>(
-    names: &mut LogNames<'a>,
+    names: &mut Vec<&'a [u8]>,
     locations: &Locations<'_>,
     name: &'a Name,
 ) -> Result<(), AllocError> {
-    if locations.number(name).number() == size(names.locations.as_slice()) {
-        names.locations.push(name.as_bytes())?;
+    if locations.number(name).number() == size(names.as_slice()) {
+        names.push(name.as_bytes())?;
     }
     Ok(())
 }

@@ -1,0 +1,64 @@
+//! Beams, one after the other, until one has come through the whole trace.
+
+use crate::model::model_along;
+use beam_search::{Beam, BeamEnding, BeamSearch};
+use clause_blocks::trace_clauses::TraceClauses;
+use closed_rows::ClosedRows;
+use dimacs::Assignment;
+use numbered_log::{Budget, NumberedLog, OperationId};
+use possible_sources::ValueClasses;
+use std::alloc::{AllocError, Global};
+use trace_log::log_of;
+use trace_semantics::trace::Trace;
+
+/// The number of beams. Each gets half of what is left of the looks.
+const BEAMS: u32 = 6;
+
+/// The looks of all beams together, some seventh of a second.
+const LOOKS: u64 = 60_000_000;
+
+/// The beam of this number: as for logs of many updates.
+fn beam(number: u32) -> Beam {
+    Beam {
+        width: 60,
+        imbalance: 30,
+        seed: number,
+    }
+}
+
+/// The schedule of the first beam that finds one.
+fn schedule_of(alloc: Global, log: &NumberedLog) -> Result<Option<Vec<OperationId>>, AllocError> {
+    let classes = ValueClasses::new(alloc, log)?;
+    if !BeamSearch::can_search(log, &classes) {
+        return Ok(None);
+    }
+    let rows = ClosedRows::new(alloc, log)?;
+    let mut budget = Budget::new(LOOKS);
+    let mut search = BeamSearch::new(alloc, log, &classes, &rows)?;
+    for number in 0..BEAMS {
+        let mut part = budget.share(budget.left() / 2);
+        let ending = search.run(alloc, beam(number), &mut part)?;
+        budget.give_back(part);
+        if ending == BeamEnding::Scheduled {
+            return Ok(Some(Vec::from_slice(alloc, search.schedule())?));
+        }
+    }
+    Ok(None)
+}
+
+/// A model of these clauses, which are those of the trace, if some beam schedules it. The rows that beams look at are those of program order alone,
+/// so a trace that says of other operations which stands first is left to others. So is one with a value of a known origin.
+pub fn model_by_beams(
+    alloc: Global,
+    trace: &Trace,
+    clauses: &TraceClauses,
+) -> Result<Option<Assignment>, AllocError> {
+    if !clauses.layout().before().is_empty() {
+        return Ok(None);
+    }
+    let log = log_of(alloc, trace)?;
+    match schedule_of(alloc, &log)? {
+        Some(schedule) => Ok(Some(model_along(alloc, clauses, schedule.as_slice())?)),
+        None => Ok(None),
+    }
+}
