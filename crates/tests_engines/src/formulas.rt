@@ -1,5 +1,6 @@
 //! Formulas, models, derivations, the variables of a trace, and the guide of the search.
 
+mod beam_models;
 mod clause_lists;
 mod decodings;
 mod derivations;

@@ -1,0 +1,40 @@
+//! Models along schedules that beams find.
+
+use crate::expectations::ample;
+use crate::traces::{HAND_OFF, STORE_BUFFERING, reduced_of};
+use beam_model::model_by_beams;
+use clause_blocks::trace_clauses::TraceClauses;
+use dimacs::{Assignment, ClauseList};
+use std::alloc::Global;
+use std::process::Abort;
+
+/// Each update reads what another has left, and the last value is the first one again.
+const UPDATES_IN_A_RING: &str =
+    "vsc 1\ninit x 0\nfinal x 0\nproc P\nU x 0 1\nU x 2 3\nproc Q\nU x 1 2\nW y 1\nU x 3 0\nproc R\nR y 1\nR x 3\n";
+
+/// It has a schedule, and says of two operations which stands first.
+const WITH_BEFORE: &str = "vsc 2\nproc P\nW x 1\nproc Q\nR x 1\nW x 2\nbefore P 1 Q 2\n";
+
+/// The model that beams find of the trace, if it makes all clauses true.
+fn model_of(rt: &impl Abort, alloc: Global, text: &str) -> Option<Assignment> {
+    let reduced = reduced_of(rt, alloc, text);
+    let clauses = ample(rt, TraceClauses::of(alloc, &reduced));
+    let model = ample(rt, model_by_beams(alloc, reduced.kept(), &clauses))?;
+    assert!(rt; clauses.eval(&model).is_ok());
+    Some(model)
+}
+
+#[test]
+fn beams_find_a_model_where_there_is_a_schedule(rt: HostRuntime) {
+    let Some(model) = model_of(&rt, rt.alloc(), HAND_OFF) else {
+        panic!(rt; "the write comes first, and then the read");
+    };
+    assert!(rt; model.value(1) && model.value(2));
+    assert!(rt; model_of(&rt, rt.alloc(), UPDATES_IN_A_RING).is_some());
+    assert!(rt; model_of(&rt, rt.alloc(), STORE_BUFFERING).is_none());
+}
+
+#[test]
+fn beams_leave_known_order_to_others(rt: HostRuntime) {
+    assert!(rt; model_of(&rt, rt.alloc(), WITH_BEFORE).is_none());
+}
