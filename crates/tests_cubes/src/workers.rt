@@ -3,6 +3,8 @@
 mod boards;
 mod confirmations;
 mod dealings;
+mod refused_memory;
 mod searches;
 mod seats;
 mod stop_words;
+mod talkers;

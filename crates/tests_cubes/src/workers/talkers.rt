@@ -1,0 +1,114 @@
+//! Searches that share what they learn, and lie or find no memory in the end.
+
+use dimacs::Assignment;
+use lrat_check::derivation::Derivation;
+use proof_log::{Attempt, Learner, ProofLog, SharedClauses, SharingLearner};
+use std::alloc::{AllocError, Global};
+use std::mem;
+
+/// The number of the first addition: after one clause of a formula.
+const FIRST: u32 = 2;
+
+/// What a search comes to in the end.
+#[derive(Clone, Copy, PartialEq, Eq)]
+pub enum TalkEnd {
+    /// It says that there is no model.
+    Lies,
+    /// It finds no memory.
+    FindsNoMemory,
+}
+
+/// A search that meets a conflict whenever it is asked. What it learns says that the first variable is true, and rests on what it learned last and on
+/// all that it took since. With the last conflict that it is to have it comes to its end.
+#[derive(Drop)]
+pub struct Talker {
+    alloc: Global,
+    left: u32,
+    end: TalkEnd,
+    learned: Vec<u32>,
+    hints: Vec<u32>,
+    next_hints: Vec<u32>,
+    given: SharedClauses,
+}
+
+impl Talker {
+    /// A search that comes to this end with this number of conflicts.
+    fn new(alloc: Global, conflicts: u32, end: TalkEnd) -> Talker {
+        Talker {
+            alloc,
+            left: conflicts,
+            end,
+            learned: Vec::new(alloc),
+            hints: Vec::new(alloc),
+            next_hints: Vec::new(alloc),
+            given: SharedClauses::new(alloc),
+        }
+    }
+}
+
+impl Learner for Talker {
+    fn meets_conflict(&mut self) -> Result<bool, AllocError> {
+        Ok(true)
+    }
+
+    fn learn(&mut self) -> Result<(), AllocError> {
+        self.left = self.left.saturating_sub(1);
+        if self.left == 0 && self.end == TalkEnd::FindsNoMemory {
+            return Err(AllocError);
+        }
+        self.hints = mem::replace(&mut self.next_hints, Vec::new(self.alloc));
+        self.learned.clear();
+        if self.left > 0 {
+            self.learned.push(2)?;
+        }
+        Ok(())
+    }
+
+    fn learned(&self) -> &[u32] {
+        self.learned.as_slice()
+    }
+
+    fn hints(&self) -> &[u32] {
+        self.hints.as_slice()
+    }
+
+    fn go_on(&mut self, id: u32) -> Result<(), AllocError> {
+        self.next_hints.push(id)?;
+        self.given.add(self.learned.as_slice(), id, 1)
+    }
+
+    fn refute_at_root(
+        &mut self,
+        _log: &ProofLog,
+        _budget: u64,
+    ) -> Result<Option<Derivation>, AllocError> {
+        Ok(None)
+    }
+
+    fn model(&self) -> Result<Assignment, AllocError> {
+        Ok(Assignment::new(Vec::new(self.alloc)))
+    }
+}
+
+impl SharingLearner for Talker {
+    fn give(&mut self) -> SharedClauses {
+        mem::replace(&mut self.given, SharedClauses::new(self.alloc))
+    }
+
+    fn take(&mut self, clauses: &SharedClauses) -> Result<(), AllocError> {
+        for place in 0..clauses.count() {
+            self.next_hints.push(clauses.clause(place).id)?;
+        }
+        Ok(())
+    }
+}
+
+/// Searches that come to these ends, each with the conflict of this number.
+pub fn talkers(alloc: Global, ends: &[(u32, TalkEnd)]) -> Result<Vec<Attempt<Talker>>, AllocError> {
+    let mut searches = Vec::with_capacity(alloc, ends.len())?;
+    for (conflicts, end) in ends {
+        let talker = Talker::new(alloc, *conflicts, *end);
+        searches.push(Attempt::new(alloc, talker, FIRST))?;
+    }
+    Ok(searches)
+}
