@@ -7,6 +7,7 @@ ghost use Rattle.batch_report.specs.FormedBatch.{IsRunOfFormed, StopsBlock, Stop
 ghost use Rattle.verdict_report.specs.Fault.{fault_of_reading};
 ghost use Rattle.verdict_report.specs.Runs.{sink_run, source_run};
 
+use crate::batch_run::BatchRun;
 use crate::block::{DecidedBlock, PlacedPiece, cut_block};
 use crate::line_form::{LineForm, PlainForm};
 use crate::lines::lines_of;
@@ -15,7 +16,6 @@ use crate::progress::BatchProgress;
 use crate::reading_on::read_on;
 use crate::side_by_side::verdicts_of;
 use crate::tally::VerdictTally;
-use cube_jobs::Options;
 use dimacs::{Sink, SinkFault, write_whole};
 use std::alloc::{AllocError, Global};
 use std::sync::Wait;
@@ -24,16 +24,11 @@ use surveyor::Surveyor;
 use verdict_report::{Fault, ReadFault, Source};
 
 /// Decides the first pieces of the text behind a number of lines: all that end in it.
-fn decide_block<'a, R: Threads + Wait + Sync, S: Surveyor + Sync>(
-    alloc: Global,
-    rt: &R,
+fn decide_block<'a, R: Threads + Wait + Sync, S: Surveyor + Sync, F>(
+    run: &BatchRun<'_, R, S, F>,
     text: &'a [u8],
     is_last: bool,
     before: usize,
-    workers: u32,
-    short: &Options,
-    long: &Options,
-    surveyor: &S,
 ) -> Result<DecidedBlock<'a>, AllocError>
     requires few { before + length text.now ≤ 9000000000000000000 }
     ensures each { IfOk result (λ block. AreFoundOff is_last before text.now (findings_of block.pieces.items block.verdicts.items) block.before block.rest.now) }
@@ -41,15 +36,13 @@ fn decide_block<'a, R: Threads + Wait + Sync, S: Surveyor + Sync>(
     ensures few { IfOk result (λ block. length block.verdicts.items + length block.rest.now ≤ length text.now) }
     ensures all { is_last ≡ true → IfOk result (λ block. block.rest.now ≡ []) }
 {
-    let block = cut_block(alloc, text, is_last, before)?;
+    let block = cut_block(run.alloc, text, is_last, before)?;
     let verdicts = verdicts_of(
-        alloc,
-        rt,
+        run.alloc,
+        run.rt,
         block.pieces.as_slice(),
-        workers,
-        short,
-        long,
-        surveyor,
+        run.search,
+        run.surveyor,
     )?;
     Ok(DecidedBlock {
         pieces: block.pieces,
@@ -60,12 +53,9 @@ fn decide_block<'a, R: Threads + Wait + Sync, S: Surveyor + Sync>(
 }
 
 /// Writes the lines of pieces behind others of the file.
-fn write_lines<R: Threads + Wait + Sync, D, F: LineForm<D>, W: Sink>(
-    alloc: Global,
-    rt: &R,
-    form: &F,
+fn write_lines<R: Threads + Wait + Sync, S, D, F: LineForm<D>, W: Sink>(
+    run: &BatchRun<'_, R, S, F>,
     devices: &mut D,
-    file: &str,
     before: usize,
     pieces: &[PlacedPiece<'_>],
     verdicts: &[PieceVerdict],
@@ -73,11 +63,11 @@ fn write_lines<R: Threads + Wait + Sync, D, F: LineForm<D>, W: Sink>(
 ) -> Result<(), SinkFault>
     requires few { before + length verdicts.now ≤ 9000000000000000000 }
     requires same { length verdicts.now ≡ length pieces.now }
-    ensures written { OnOk result (WritesLines F.means file.now before (findings_of pieces.now verdicts.now) (device_run devices.old devices.new) (sink_run W.written W.failures out.old out.new)) }
-    ensures stopped { IfErr result (StopsLines F.means file.now before (findings_of pieces.now verdicts.now) (device_run devices.old devices.new) (sink_run W.written W.failures out.old out.new)) }
+    ensures written { OnOk result (WritesLines F.means run.now.file.now before (findings_of pieces.now verdicts.now) (device_run devices.old devices.new) (sink_run W.written W.failures out.old out.new)) }
+    ensures stopped { IfErr result (StopsLines F.means run.now.file.now before (findings_of pieces.now verdicts.now) (device_run devices.old devices.new) (sink_run W.written W.failures out.old out.new)) }
     ensures same { W.path out.new ≡ W.path out.old }
 {
-    let lines = match lines_of(alloc, rt, form, devices, file, before, pieces, verdicts) {
+    let lines = match lines_of(run, devices, before, pieces, verdicts) {
         Ok(lines) => lines,
         Err(fault) => return Err(fault),
     };
@@ -96,25 +86,18 @@ struct BlockEnd<'a> {
 
 /// Decides the next pieces of what is held, and writes their lines together.
 fn write_block<'a, R: Threads + Wait + Sync, S: Surveyor + Sync, D, F: LineForm<D>, W: Sink>(
-    alloc: Global,
-    rt: &R,
-    form: &F,
+    run: &BatchRun<'_, R, S, F>,
     devices: &mut D,
-    file: &str,
     held: &'a [u8],
     is_last: bool,
     progress: BatchProgress,
-    workers: u32,
-    short: &Options,
-    long: &Options,
-    surveyor: &S,
     out: &mut W,
 ) -> Result<BlockEnd<'a>, SinkFault>
     requires few { length held.now ≤ 268435456 }
-    ensures written { IfOk result (λ end. WritesBlock F.means file.now is_last held.now progress end.progress end.left.now
+    ensures written { IfOk result (λ end. WritesBlock F.means run.now.file.now is_last held.now progress end.progress end.left.now
         (device_run devices.old devices.new)
         (sink_run W.written W.failures out.old out.new)) }
-    ensures stopped { IfErr result (StopsBlock F.means file.now is_last held.now progress
+    ensures stopped { IfErr result (StopsBlock F.means run.now.file.now is_last held.now progress
         (device_run devices.old devices.new)
         (sink_run W.written W.failures out.old out.new)) }
     ensures all { is_last ≡ true → IfOk result (λ end. end.left.now ≡ []) }
@@ -124,33 +107,13 @@ fn write_block<'a, R: Threads + Wait + Sync, S: Surveyor + Sync, D, F: LineForm<
     if !progress.has_room() {
         return Err(SinkFault::OutOfMemory);
     }
-    let block = match decide_block(
-        alloc,
-        rt,
-        held,
-        is_last,
-        progress.before,
-        workers,
-        short,
-        long,
-        surveyor,
-    ) {
+    let block = match decide_block(run, held, is_last, progress.before) {
         Ok(block) => block,
         Err(_) => return Err(SinkFault::OutOfMemory),
     };
     let pieces = block.pieces.as_slice();
     let verdicts = block.verdicts.as_slice();
-    match write_lines(
-        alloc,
-        rt,
-        form,
-        devices,
-        file,
-        progress.number,
-        pieces,
-        verdicts,
-        out,
-    ) {
+    match write_lines(run, devices, progress.number, pieces, verdicts, out) {
         Ok(()) => {}
         Err(fault) => return Err(fault),
     }
@@ -185,20 +148,17 @@ fn refusal_of_reading(fault: ReadFault) -> Fault
 }
 
 /// Writes the line of a refusal at the end of a text, of which no more could be read, and counts it.
-fn write_refusal<R: Threads + Wait + Sync, D, F: LineForm<D>, W: Sink>(
-    alloc: Global,
-    rt: &R,
-    form: &F,
+fn write_refusal<R: Threads + Wait + Sync, S, D, F: LineForm<D>, W: Sink>(
+    run: &BatchRun<'_, R, S, F>,
     devices: &mut D,
-    file: &str,
     progress: BatchProgress,
     fault: Fault,
     out: &mut W,
 ) -> Result<VerdictTally, SinkFault>
-    ensures written { IfOk result (λ tally. WritesRefusal F.means file.now progress fault tally
+    ensures written { IfOk result (λ tally. WritesRefusal F.means run.now.file.now progress fault tally
         (device_run devices.old devices.new)
         (sink_run W.written W.failures out.old out.new)) }
-    ensures stopped { IfErr result (StopsRefusal F.means file.now progress fault
+    ensures stopped { IfErr result (StopsRefusal F.means run.now.file.now progress fault
         (device_run devices.old devices.new)
         (sink_run W.written W.failures out.old out.new)) }
     ensures same { W.path out.new ≡ W.path out.old }
@@ -211,17 +171,7 @@ fn write_refusal<R: Threads + Wait + Sync, D, F: LineForm<D>, W: Sink>(
         before: progress.before,
     };
     let verdict = PieceVerdict::Refused(fault);
-    match write_lines(
-        alloc,
-        rt,
-        form,
-        devices,
-        file,
-        progress.number,
-        &[piece],
-        &[verdict],
-        out,
-    ) {
+    match write_lines(run, devices, progress.number, &[piece], &[verdict], out) {
         Ok(()) => Ok(progress.tally.with(&verdict)),
         Err(fault) => Err(fault),
     }
@@ -243,20 +193,13 @@ pub fn run_batch_in<
     F: LineForm<D>,
     W: Sink,
 >(
-    alloc: Global,
-    rt: &R,
-    form: &F,
+    run: &BatchRun<'_, R, S, F>,
     devices: &mut D,
-    file: &str,
     traces: &mut T,
     tally: VerdictTally,
-    workers: u32,
-    short: &Options,
-    long: &Options,
-    surveyor: &S,
     out: &mut W,
 ) -> Result<VerdictTally, SinkFault>
-    ensures run { IsRunOfFormed F.means file.now
+    ensures run { IsRunOfFormed F.means run.now.file.now
         (source_run T.handed_out T.is_at_end T.failures traces.old traces.new)
         tally
         (device_run devices.old devices.new)
@@ -265,31 +208,17 @@ pub fn run_batch_in<
     ensures same_traces { T.path traces.new ≡ T.path traces.old }
     ensures same_out { W.path out.new ≡ W.path out.old }
 {
-    let mut held = Vec::new(alloc);
+    let mut held = Vec::new(run.alloc);
     let mut progress = BatchProgress::new(tally);
     for _block in 0..u64::MAX {
-        let is_last = match read_on(alloc, traces, &mut held) {
+        let is_last = match read_on(run.alloc, traces, &mut held) {
             Ok(is_last) => is_last,
             Err(fault) => {
                 let refusal = refusal_of_reading(fault);
-                return write_refusal(alloc, rt, form, devices, file, progress, refusal, out);
+                return write_refusal(run, devices, progress, refusal, out);
             }
         };
-        let end = match write_block(
-            alloc,
-            rt,
-            form,
-            devices,
-            file,
-            held.as_slice(),
-            is_last,
-            progress,
-            workers,
-            short,
-            long,
-            surveyor,
-            out,
-        ) {
+        let end = match write_block(run, devices, held.as_slice(), is_last, progress, out) {
             Ok(end) => end,
             Err(fault) => return Err(fault),
         };
@@ -297,7 +226,7 @@ pub fn run_batch_in<
         if is_last {
             return Ok(progress.tally);
         }
-        held = match held_of(alloc, end.left) {
+        held = match held_of(run.alloc, end.left) {
             Ok(held) => held,
             Err(_) => return Err(SinkFault::OutOfMemory),
         };
@@ -307,18 +236,12 @@ pub fn run_batch_in<
 
 /// Decides all traces as [`run_batch_in`] does, with plain lines: the file, the number of the piece, and what is said of it.
 pub fn run_batch<R: Threads + Wait + Sync, T: Source, S: Surveyor + Sync, W: Sink>(
-    alloc: Global,
-    rt: &R,
-    file: &str,
+    run: &BatchRun<'_, R, S, PlainForm>,
     traces: &mut T,
     tally: VerdictTally,
-    workers: u32,
-    short: &Options,
-    long: &Options,
-    surveyor: &S,
     out: &mut W,
 ) -> Result<VerdictTally, SinkFault>
-    ensures run { IsRunOfBatch file.now
+    ensures run { IsRunOfBatch run.now.file.now
         (source_run T.handed_out T.is_at_end T.failures traces.old traces.new)
         tally
         (sink_run W.written W.failures out.old out.new)
@@ -326,18 +249,5 @@ pub fn run_batch<R: Threads + Wait + Sync, T: Source, S: Surveyor + Sync, W: Sin
     ensures same_traces { T.path traces.new ≡ T.path traces.old }
     ensures same_out { W.path out.new ≡ W.path out.old }
 {
-    run_batch_in(
-        alloc,
-        rt,
-        &PlainForm,
-        &mut (),
-        file,
-        traces,
-        tally,
-        workers,
-        short,
-        long,
-        surveyor,
-        out,
-    )
+    run_batch_in(run, &mut (), traces, tally, out)
 }

@@ -36,6 +36,17 @@ pub struct DecidedPiece<'a> {
     pub verdict: PieceVerdict,
 }
 
+/// A piece that is decided, and where it stands.
+#[derive(Clone, Copy)]
+pub struct NumberedPiece<'a> {
+    /// The file as its lines name it.
+    pub file: &'a str,
+    /// The number of the piece in the file.
+    pub number: usize,
+    /// The piece and its verdict.
+    pub found: DecidedPiece<'a>,
+}
+
 /// The verdicts on the first pieces of a text, and what follows them.
 #[derive(Drop)]
 pub struct DecidedBlock<'a> {

@@ -6,6 +6,7 @@ ghost use Rattle.text_lines.specs.Fault.{IsRefusal};
 ghost use Rattle.trace_text.specs.TraceFault.{HasTraceFault};
 ghost use Rattle.verdict_report.specs.Fault.{fault_of_search};
 
+use crate::batch_run::BatchSearch;
 use crate::piece_verdict::{PieceVerdict, verdict_of_decision, verdict_of_surveyed};
 use cube_jobs::{OpenGate, Options, SearchFault};
 use reducer::reduced::{Reduced, reduce};
@@ -68,16 +69,15 @@ fn verdict_on_trace<R: Threads + Wait + Sync, S: Surveyor>(
     alloc: Global,
     rt: &R,
     trace: &Trace,
-    short: &Options,
-    long: &Options,
+    search: &BatchSearch,
     surveyor: &S,
 ) -> PieceVerdict
     ensures { IsVerdictOf trace.now result }
 {
     match reduce(alloc, trace) {
-        Ok(reduced) => verdict_by_search(alloc, rt, &reduced, short),
+        Ok(reduced) => verdict_by_search(alloc, rt, &reduced, &search.short),
         Err(PlacedFault::OutOfMemory) => PieceVerdict::Refused(Fault::OutOfMemory),
-        Err(PlacedFault::At(_, _)) => verdict_by_survey(alloc, rt, trace, surveyor, long),
+        Err(PlacedFault::At(_, _)) => verdict_by_survey(alloc, rt, trace, surveyor, &search.long),
     }
 }
 
@@ -102,14 +102,13 @@ pub fn verdict_on<R: Threads + Wait + Sync, S: Surveyor>(
     rt: &R,
     text: &[u8],
     before: usize,
-    short: &Options,
-    long: &Options,
+    search: &BatchSearch,
     surveyor: &S,
 ) -> PieceVerdict
     ensures { IsVerdictOn before text.now result }
 {
     match read_trace(alloc, text) {
-        Ok(trace) => verdict_on_trace(alloc, rt, &trace, short, long, surveyor),
+        Ok(trace) => verdict_on_trace(alloc, rt, &trace, search, surveyor),
         Err(fault) => refused_piece(text, before, fault),
     }
 }

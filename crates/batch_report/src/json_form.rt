@@ -7,7 +7,7 @@ ghost use Rattle.batch_report.specs.PlainLines.{fails_for_memory, stays};
 ghost use Rattle.dimacs.specs.declared.sink_fault.SinkFault.{SinkFault};
 ghost use Rattle.json_text.specs.JsonString.{AppendsSome};
 
-use crate::block::DecidedPiece;
+use crate::block::NumberedPiece;
 use crate::json_lines::push_head;
 use crate::line_form::LineForm;
 use dimacs::SinkFault;
@@ -30,9 +30,7 @@ pub trait PieceMembers<D> {
         rt: &R,
         devices: &mut D,
         text: &mut Vec<u8>,
-        file: &str,
-        number: usize,
-        found: &DecidedPiece<'_>,
+        piece: &NumberedPiece<'_>,
     ) -> Result<(), SinkFault>
         requires sync { IsSync R.row }
         ensures some { OnOk result (AppendsSome text.old.items text.new.items) }
@@ -55,9 +53,7 @@ impl<D> PieceMembers<D> for NoMembers {
         _rt: &R,
         _devices: &mut D,
         _text: &mut Vec<u8>,
-        _file: &str,
-        _number: usize,
-        _found: &DecidedPiece<'_>,
+        _piece: &NumberedPiece<'_>,
     ) -> Result<(), SinkFault> {
         Ok(())
     }
@@ -79,18 +75,13 @@ impl<D, M: PieceMembers<D>> LineForm<D> for JsonForm<M> {
         rt: &R,
         devices: &mut D,
         text: &mut Vec<u8>,
-        file: &str,
-        number: usize,
-        found: &DecidedPiece<'_>,
+        piece: &NumberedPiece<'_>,
     ) -> Result<(), SinkFault> {
-        match push_head(alloc, text, file, number, found) {
+        match push_head(alloc, text, piece) {
             Ok(()) => {}
             Err(_) => return Err(SinkFault::OutOfMemory),
         }
-        match self
-            .members
-            .push_members(alloc, rt, devices, text, file, number, found)
-        {
+        match self.members.push_members(alloc, rt, devices, text, piece) {
             Ok(()) => {}
             Err(fault) => return Err(fault),
         }

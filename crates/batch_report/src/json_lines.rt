@@ -5,7 +5,7 @@ ghost use Rattle.batch_report.specs.Findings.{finding_of};
 ghost use Rattle.batch_report.specs.JsonLines.{area_object, file_member, header_line, json_head, json_verdict, member, numbered_members, place_member, place_members, refusal_object, said_at};
 ghost use Rattle.text_lines.specs.Lines.{lines_of};
 
-use crate::block::DecidedPiece;
+use crate::block::{DecidedPiece, NumberedPiece};
 use crate::piece_verdict::PieceVerdict;
 use json_text::push_json_string;
 use std::alloc::{AllocError, Global};
@@ -203,17 +203,15 @@ fn push_places(
 pub(crate) fn push_head(
     alloc: Global,
     text: &mut Vec<u8>,
-    file: &str,
-    number: usize,
-    found: &DecidedPiece<'_>,
+    piece: &NumberedPiece<'_>,
 ) -> Result<(), AllocError>
-    ensures { OnOk result (text.new.items ≡ text.old.items ++ json_head file.now number (finding_of found.now)) }
+    ensures { OnOk result (text.new.items ≡ text.old.items ++ json_head piece.now.file.now piece.now.number (finding_of piece.now.found)) }
 {
-    let Some(line) = line_of_header(found) else {
+    let Some(line) = line_of_header(&piece.found) else {
         return Err(AllocError);
     };
-    push_file(alloc, text, file)?;
-    push_places(alloc, text, number, line)?;
-    push_verdict(alloc, text, &found.verdict)?;
+    push_file(alloc, text, piece.file)?;
+    push_places(alloc, text, piece.number, line)?;
+    push_verdict(alloc, text, &piece.found.verdict)?;
     Ok(())
 }

@@ -2,6 +2,7 @@
 #![tactic(auto)]
 
 mod batch_engine;
+mod batch_run;
 mod block;
 mod deciding;
 mod json_form;
@@ -16,7 +17,8 @@ mod side_by_side;
 mod tally;
 
 pub use batch_engine::{run_batch, run_batch_in};
-pub use block::{DecidedPiece, PlacedPiece};
+pub use batch_run::{BatchRun, BatchSearch};
+pub use block::{DecidedPiece, NumberedPiece, PlacedPiece};
 pub use deciding::verdict_on;
 pub use json_form::{JsonForm, NoMembers, PieceMembers};
 pub use line_form::{LineForm, PlainForm};

@@ -5,7 +5,7 @@ ghost use denote.Param.Send.{IsSync};
 ghost use Rattle.batch_report.specs.Findings.{LineMeaning, PutsLine, finding_of};
 ghost use Rattle.batch_report.specs.PlainLines.{plain_meaning};
 
-use crate::block::DecidedPiece;
+use crate::block::NumberedPiece;
 use crate::plain_lines::push_plain;
 use dimacs::SinkFault;
 use std::alloc::Global;
@@ -17,7 +17,7 @@ pub trait LineForm<D> {
     /// What a line says, and what is done with the devices for it.
     ghost means: { LineMeaning D };
 
-    /// Appends the line of a piece, which has this number in the file. It fails if there is no memory, or a device of the form fails; then
+    /// Appends the line of a piece. It fails if there is no memory, or a device of the form fails; then
     /// some of the line may have been appended.
     fn push_line<R: Threads + Wait + Sync>(
         &self,
@@ -25,12 +25,10 @@ pub trait LineForm<D> {
         rt: &R,
         devices: &mut D,
         text: &mut Vec<u8>,
-        file: &str,
-        number: usize,
-        found: &DecidedPiece<'_>,
+        piece: &NumberedPiece<'_>,
     ) -> Result<(), SinkFault>
         requires sync { IsSync R.row }
-        ensures said { OnOk result (PutsLine (means.says file.now number (finding_of found.now)) text.old.items text.new.items) }
+        ensures said { OnOk result (PutsLine (means.says piece.now.file.now piece.now.number (finding_of piece.now.found)) text.old.items text.new.items) }
         ensures moved { OnOk result (means.moves devices.old devices.new) }
         ensures failed { IfErr result (λ fault. means.fails devices.old fault devices.new) };
 }
@@ -48,11 +46,9 @@ impl<D> LineForm<D> for PlainForm {
         _rt: &R,
         _devices: &mut D,
         text: &mut Vec<u8>,
-        file: &str,
-        number: usize,
-        found: &DecidedPiece<'_>,
+        piece: &NumberedPiece<'_>,
     ) -> Result<(), SinkFault> {
-        match push_plain(alloc, text, file, number, &found.verdict) {
+        match push_plain(alloc, text, piece.file, piece.number, &piece.found.verdict) {
             Ok(()) => Ok(()),
             Err(_) => Err(SinkFault::OutOfMemory),
         }

@@ -9,10 +9,9 @@ ghost use Rattle.verdict_report.specs.Runs.{sink_run};
 
 use crate::opening::open;
 use crate::search_runs::{search_of, survey_of};
-use batch_report::{VerdictTally, run_batch};
+use batch_report::{BatchRun, BatchSearch, PlainForm, VerdictTally, run_batch};
 use command_host::Host;
 use command_line::{BatchNumbers, SearchNumbers, SurveyNumbers};
-use cube_jobs::Options;
 use dimacs::{Sink, SinkFault};
 use std::alloc::Global;
 use std::sync::Wait;
@@ -23,15 +22,14 @@ use verdict_report::{Fault, Status};
 /// The most steps of the survey of a long trace, as `survey` takes them without an option.
 pub(crate) const SURVEY_STEPS: u64 = 1_000_000_000;
 
-/// How the traces of a batch are searched.
-#[derive(Clone, Copy)]
-pub(crate) struct BatchSearch {
-    /// How many threads decide traces.
-    pub(crate) workers: u32,
-    /// How a trace of at most 160 operations is searched.
-    pub(crate) short: Options,
-    /// How a longer one is searched after its survey.
-    pub(crate) long: Options,
+/// What a batch of files is given, and does not change.
+pub(crate) struct BatchTask<'a, R> {
+    /// Where memory is taken.
+    pub(crate) alloc: Global,
+    /// What starts threads.
+    pub(crate) rt: &'a R,
+    /// How traces are searched.
+    pub(crate) search: &'a BatchSearch,
 }
 
 /// The searches of these numbers. Each trace is searched by one thread.
@@ -67,12 +65,10 @@ pub(crate) fn refusal_of_sink(fault: SinkFault) -> Fault
 
 /// Decides the traces in the file at this path, writes a line for each to the standard output, and counts them.
 fn decide_file<'p, R: Threads + Wait + Sync, H: Host<'p>, W: Sink>(
-    alloc: Global,
-    rt: &R,
+    task: &BatchTask<'_, R>,
     host: &mut H,
     traces: &'p str,
     tally: VerdictTally,
-    search: &BatchSearch,
     out: &mut W,
 ) -> Result<VerdictTally, SinkFault>
     ensures { DecidesFile H.calls (source_view H.Input.handed_out H.Input.is_at_end H.Input.failures H.Input.path)
@@ -81,29 +77,24 @@ fn decide_file<'p, R: Threads + Wait + Sync, H: Host<'p>, W: Sink>(
     let surveyor = BySaturation {
         budget: SURVEY_STEPS,
     };
-    let mut file = open(alloc, host, traces, false);
-    run_batch(
-        alloc,
-        rt,
-        traces,
-        &mut file,
-        tally,
-        search.workers,
-        &search.short,
-        &search.long,
-        &surveyor,
-        out,
-    )
+    let mut file = open(task.alloc, host, traces, false);
+    let run = BatchRun {
+        alloc: task.alloc,
+        rt: task.rt,
+        file: traces,
+        form: &PlainForm,
+        search: task.search,
+        surveyor: &surveyor,
+    };
+    run_batch(&run, &mut file, tally, out)
 }
 
 /// Decides the traces in the files at these paths, and writes a line for each to the standard output. A file that cannot be read to its end
 /// is refused in its last line, and then the next one is decided.
 pub(crate) fn decide_traces<'p, R: Threads + Wait + Sync, H: Host<'p>, W: Sink>(
-    alloc: Global,
-    rt: &R,
+    task: &BatchTask<'_, R>,
     host: &mut H,
     traces: &[&'p str],
-    search: &BatchSearch,
     out: &mut W,
 ) -> Result<Status, Fault>
     ensures { RunsBatch H.calls (source_view H.Input.handed_out H.Input.is_at_end H.Input.failures H.Input.path)
@@ -111,7 +102,7 @@ pub(crate) fn decide_traces<'p, R: Threads + Wait + Sync, H: Host<'p>, W: Sink>(
 {
     let mut tally = VerdictTally::new();
     for at in 0..traces.len() {
-        let counted = match decide_file(alloc, rt, host, traces[at], tally, search, out) {
+        let counted = match decide_file(task, host, traces[at], tally, out) {
             Ok(counted) => counted,
             Err(fault) => return Err(refusal_of_sink(fault)),
         };

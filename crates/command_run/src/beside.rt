@@ -6,8 +6,8 @@ ghost use Rattle.command_run.specs.FormedRuns.{FailsToKeep, KeepsSome, meaning_o
 ghost use Rattle.json_text.specs.JsonString.{AppendsSome};
 ghost use Rattle.std.specs.Prelude.{false};
 
-use crate::batch_runs::{BatchSearch, SURVEY_STEPS};
-use batch_report::{DecidedPiece, LineForm, PieceMembers, PieceVerdict, PlainForm};
+use crate::batch_runs::SURVEY_STEPS;
+use batch_report::{BatchSearch, LineForm, NumberedPiece, PieceMembers, PieceVerdict, PlainForm};
 use command_host::Host;
 use dimacs::SinkFault;
 use kept_files::{KeptTexts, keep_texts, stem_of};
@@ -32,21 +32,26 @@ fn keep_files<'p, H: Host<'p>>(
     alloc: Global,
     host: &mut H,
     folder: &'p str,
-    file: &str,
-    number: usize,
-    trace: &[u8],
+    piece: &NumberedPiece<'_>,
     details: &PieceDetails,
 ) -> Result<String, SinkFault>
     ensures kept { OnOk result (KeepsSome H.calls host.old host.new) }
     ensures failed { OnErr result (KeepsSome H.calls host.old host.new) }
 {
     let texts = KeptTexts {
-        trace,
+        trace: piece.found.piece.text,
         certificate: details.certificate.as_slice(),
         names: details.names.as_slice(),
         picture: details.picture.as_slice(),
     };
-    keep_texts(alloc, host, folder, stem_of(file), number, &texts)
+    keep_texts(
+        alloc,
+        host,
+        folder,
+        stem_of(piece.file),
+        piece.number,
+        &texts,
+    )
 }
 
 /// What is said beside verdicts.
@@ -96,9 +101,7 @@ impl<'p> Beside<'p> {
         &self,
         alloc: Global,
         host: &mut H,
-        file: &str,
-        number: usize,
-        found: &DecidedPiece<'_>,
+        piece: &NumberedPiece<'_>,
         details: &PieceDetails,
     ) -> Result<Option<String>, SinkFault>
         ensures kept { OnOk result (KeepsSome H.calls host.old host.new) }
@@ -107,10 +110,10 @@ impl<'p> Beside<'p> {
         let Some(folder) = self.folder else {
             return Ok(None);
         };
-        if !is_no(&found.verdict) {
+        if !is_no(&piece.found.verdict) {
             return Ok(None);
         }
-        match keep_files(alloc, host, folder, file, number, found.piece.text, details) {
+        match keep_files(alloc, host, folder, piece, details) {
             Ok(name) => Ok(Some(name)),
             Err(fault) => Err(fault),
         }
@@ -122,9 +125,7 @@ impl<'p> Beside<'p> {
         alloc: Global,
         host: &mut H,
         text: &mut Vec<u8>,
-        file: &str,
-        number: usize,
-        found: &DecidedPiece<'_>,
+        piece: &NumberedPiece<'_>,
         details: &PieceDetails,
     ) -> Result<(), SinkFault>
         ensures some { OnOk result (AppendsSome text.old.items text.new.items) }
@@ -135,7 +136,7 @@ impl<'p> Beside<'p> {
             Ok(()) => {}
             Err(_) => return Err(SinkFault::OutOfMemory),
         }
-        let name = match self.keep(alloc, host, file, number, found, details) {
+        let name = match self.keep(alloc, host, piece, details) {
             Ok(Some(name)) => name,
             Ok(None) => return Ok(()),
             Err(fault) => return Err(fault),
@@ -158,17 +159,13 @@ impl<'p, H: Host<'p>> PieceMembers<H> for Beside<'p> {
         rt: &R,
         devices: &mut H,
         text: &mut Vec<u8>,
-        file: &str,
-        number: usize,
-        found: &DecidedPiece<'_>,
+        piece: &NumberedPiece<'_>,
     ) -> Result<(), SinkFault> {
-        if !self.says_more(&found.verdict) {
+        if !self.says_more(&piece.found.verdict) {
             return Ok(());
         }
-        match self.details(alloc, rt, found.piece.text) {
-            Ok(Some(details)) => self.push_details(
-                alloc, devices, text, file, number, found, &details,
-            ),
+        match self.details(alloc, rt, piece.found.piece.text) {
+            Ok(Some(details)) => self.push_details(alloc, devices, text, piece, &details),
             Ok(None) => Ok(()),
             Err(_) => Err(SinkFault::OutOfMemory),
         }
@@ -188,21 +185,16 @@ impl<'p> PlainBeside<'p> {
         alloc: Global,
         rt: &R,
         host: &mut H,
-        file: &str,
-        number: usize,
-        found: &DecidedPiece<'_>,
+        piece: &NumberedPiece<'_>,
     ) -> Result<(), SinkFault>
         ensures kept { OnOk result (KeepsSome H.calls host.old host.new) }
         ensures failed { OnErr result (KeepsSome H.calls host.old host.new) }
     {
-        if !is_no(&found.verdict) {
+        if !is_no(&piece.found.verdict) {
             return Ok(());
         }
-        match self.beside.details(alloc, rt, found.piece.text) {
-            Ok(Some(details)) => match self
-                .beside
-                .keep(alloc, host, file, number, found, &details)
-            {
+        match self.beside.details(alloc, rt, piece.found.piece.text) {
+            Ok(Some(details)) => match self.beside.keep(alloc, host, piece, &details) {
                 Ok(_) => Ok(()),
                 Err(fault) => Err(fault),
             },
@@ -221,14 +213,12 @@ impl<'p, H: Host<'p>> LineForm<H> for PlainBeside<'p> {
         rt: &R,
         devices: &mut H,
         text: &mut Vec<u8>,
-        file: &str,
-        number: usize,
-        found: &DecidedPiece<'_>,
+        piece: &NumberedPiece<'_>,
     ) -> Result<(), SinkFault> {
-        match self.keep(alloc, rt, devices, file, number, found) {
+        match self.keep(alloc, rt, devices, piece) {
             Ok(()) => {}
             Err(fault) => return Err(fault),
         }
-        PlainForm.push_line(alloc, rt, &mut (), text, file, number, found)
+        PlainForm.push_line(alloc, rt, &mut (), text, piece)
     }
 }

@@ -13,7 +13,7 @@ ghost use Rattle.verdict_report.specs.RecheckEngine.{IsRunOfRecheck};
 ghost use Rattle.verdict_report.specs.Runs.{sink_run};
 
 use crate::asked_gate::AskedGate;
-use crate::batch_runs::batch_of;
+use crate::batch_runs::{BatchTask, batch_of};
 use crate::formed_runs::decide_batch;
 use crate::kept_run::KeptRun;
 use crate::opening::open;
@@ -306,7 +306,12 @@ pub(crate) fn run_engine<'p, R: Threads + Wait + Sync, G: Gate + Sync, H: Host<'
             output,
         } => {
             let search = batch_of(*numbers);
-            decide_batch(alloc, rt, host, traces.as_slice(), &search, *output, out)
+            let task = BatchTask {
+                alloc,
+                rt,
+                search: &search,
+            };
+            decide_batch(&task, host, traces.as_slice(), *output, out)
         }
     }
 }

@@ -1,7 +1,7 @@
 //! What is written for each piece, and what is answered.
 
 use crate::expectations::{ample, expect};
-use batch_report::{VerdictTally, run_batch};
+use batch_report::{BatchRun, BatchSearch, PlainForm, VerdictTally, run_batch};
 use cube_jobs::Options;
 use dimacs::{MemorySink, ShortSink, Sink, SinkFault};
 use std::alloc::Global;
@@ -24,9 +24,20 @@ fn batch_of<R: Threads + Wait + Abort + Sync, W: Sink>(
     let short = ample(rt, Options::new(1, 3, 100_000, 1));
     let long = ample(rt, Options::new(1, 3, 100_000, 1));
     let surveyor = BySaturation { budget: 1_000_000 };
-    run_batch(
-        alloc, rt, "t", source, tally, workers, &short, &long, &surveyor, out,
-    )
+    let search = BatchSearch {
+        workers,
+        short,
+        long,
+    };
+    let run = BatchRun {
+        alloc,
+        rt,
+        file: "t",
+        form: &PlainForm,
+        search: &search,
+        surveyor: &surveyor,
+    };
+    run_batch(&run, source, tally, out)
 }
 
 /// The outcome of a batch that wrote all its lines.

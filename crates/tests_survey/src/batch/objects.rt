@@ -2,7 +2,7 @@
 
 use crate::batch::batches::THREE;
 use crate::expectations::{ample, expect};
-use batch_report::{JsonForm, NoMembers, VerdictTally, run_batch_in};
+use batch_report::{BatchRun, BatchSearch, JsonForm, NoMembers, VerdictTally, run_batch_in};
 use cube_jobs::Options;
 use dimacs::{MemorySink, SinkFault};
 use std::alloc::Global;
@@ -23,20 +23,20 @@ fn objects_of<R: Threads + Wait + Abort + Sync>(
     let long = ample(rt, Options::new(1, 3, 100_000, 1));
     let surveyor = BySaturation { budget: 1_000_000 };
     let form = JsonForm { members: NoMembers };
-    run_batch_in(
+    let search = BatchSearch {
+        workers: 2,
+        short,
+        long,
+    };
+    let run = BatchRun {
         alloc,
         rt,
-        &form,
-        &mut (),
-        "t\"",
-        source,
-        VerdictTally::new(),
-        2,
-        &short,
-        &long,
-        &surveyor,
-        out,
-    )
+        file: "t\"",
+        form: &form,
+        search: &search,
+        surveyor: &surveyor,
+    };
+    run_batch_in(&run, &mut (), source, VerdictTally::new(), out)
 }
 
 /// The objects of the three traces.

@@ -4,5 +4,5 @@ use Rattle.batch_report.proofs.batch_engine.run_batch.Goals as goal
 
 pub returns-clause-run : goal.returns-clause-run
 returns-clause-run g c =
-    plain_run _ _ (g.W.Sink.written c.args.out.now) (g.W.Sink.written c.run_batch_in.new.out) (g.W.Sink.failures c.args.out.now) (g.W.Sink.failures c.run_batch_in.new.out) c.args.file.now
+    plain_run _ _ (g.W.Sink.written c.args.out.now) (g.W.Sink.written c.run_batch_in.new.out) (g.W.Sink.failures c.args.out.now) (g.W.Sink.failures c.run_batch_in.new.out) c.args.run.now.file.now
     (source_run g.T.Source.handed_out g.T.Source.is_at_end g.T.Source.failures c.args.traces.now c.run_batch_in.new.traces) c.args.tally c.run_batch_in.result c.run_batch_in.ensures.run

@@ -11,16 +11,16 @@ use Rattle.batch_report.proofs.batch_engine.write_block.Goals as goal
 
 pub returns-then-not-has_room-clause-stopped : goal.returns-then-not-has_room-clause-stopped
 returns-then-not-has_room-clause-stopped g c =
-    nothing_decided g.F.LineForm.means c.args.file.now c.args.is_last c.args.held.now c.args.progress c.args.devices.now (g.W.Sink.written c.args.out.now) (g.W.Sink.failures c.args.out.now)
+    nothing_decided g.F.LineForm.means c.args.run.now.file.now c.args.is_last c.args.held.now c.args.progress c.args.devices.now (g.W.Sink.written c.args.out.now) (g.W.Sink.failures c.args.out.now)
 
 pub returns-in-Err-clause-stopped : goal.returns-in-Err-clause-stopped
 returns-in-Err-clause-stopped g c =
-    nothing_decided g.F.LineForm.means c.args.file.now c.args.is_last c.args.held.now c.args.progress c.args.devices.now (g.W.Sink.written c.args.out.now) (g.W.Sink.failures c.args.out.now)
+    nothing_decided g.F.LineForm.means c.args.run.now.file.now c.args.is_last c.args.held.now c.args.progress c.args.devices.now (g.W.Sink.written c.args.out.now) (g.W.Sink.failures c.args.out.now)
 
 pub returns-in-Err-write_lines-clause-stopped : goal.returns-in-Err-write_lines-clause-stopped
 returns-in-Err-write_lines-clause-stopped g c =
     let means = g.F.LineForm.means in
-    let file = c.args.file.now in
+    let file = c.args.run.now.file.now in
     let number = c.args.progress.number in
     let devices = device_run c.args.devices.now c.write_lines.new.devices in
     let out = sink_run g.W.Sink.written g.W.Sink.failures c.args.out.now c.write_lines.new.out in
@@ -37,7 +37,7 @@ returns-in-Err-write_lines-clause-stopped g c =
 pub returns-clause-written : goal.returns-clause-written
 returns-clause-written g c =
     let means = g.F.LineForm.means in
-    let file = c.args.file.now in
+    let file = c.args.run.now.file.now in
     let number = c.args.progress.number in
     let devices = device_run c.args.devices.now c.write_lines.new.devices in
     let out = sink_run g.W.Sink.written g.W.Sink.failures c.args.out.now c.write_lines.new.out in

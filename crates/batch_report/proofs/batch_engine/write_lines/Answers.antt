@@ -6,7 +6,7 @@ use Rattle.batch_report.proofs.batch_engine.write_lines.Goals as goal
 
 pub returns-in-Err-clause-stopped : goal.returns-in-Err-clause-stopped
 returns-in-Err-clause-stopped g c =
-    unmade_stopped g.F.LineForm.means c.args.file.now c.args.before (findings_of c.args.pieces.now c.args.verdicts.now) c.args.devices.now c.lines_of.new.devices (g.W.Sink.written c.args.out.now) (g.W.Sink.failures c.args.out.now)
+    unmade_stopped g.F.LineForm.means c.args.run.now.file.now c.args.before (findings_of c.args.pieces.now c.args.verdicts.now) c.args.devices.now c.lines_of.new.devices (g.W.Sink.written c.args.out.now) (g.W.Sink.failures c.args.out.now)
     c.in-Err.fault c.in-Err.ensures.failed
 
 pub returns-in-Ok-write_whole-clause-written : goal.returns-in-Ok-write_whole-clause-written

@@ -5,6 +5,6 @@ use Rattle.batch_report.proofs.json_lines.push_head.Goals as goal
 
 pub returns : goal.returns
 returns c =
-    three_parts c.args.text.now.items (file_member c.args.file.now) (place_members c.args.number c.in-Some.line) (json_verdict c.args.found.now.verdict) c.push_file.new.text.items c.push_places.new.text.items c.push_verdict.new.text.items
+    three_parts c.args.text.now.items (file_member c.args.piece.now.file.now) (place_members c.args.piece.now.number c.in-Some.line) (json_verdict c.args.piece.now.found.verdict) c.push_file.new.text.items c.push_places.new.text.items c.push_verdict.new.text.items
     c.in_ok-push_file.ensures c.in_ok-push_places.ensures c.in_ok-push_verdict.ensures
-    ∙ ap (λ (line : ℕ). c.args.text.now.items ++ (file_member c.args.file.now ++ (place_members c.args.number line ++ json_verdict c.args.found.now.verdict))) c.in-Some.ensures
+    ∙ ap (λ (line : ℕ). c.args.text.now.items ++ (file_member c.args.piece.now.file.now ++ (place_members c.args.piece.now.number line ++ json_verdict c.args.piece.now.found.verdict))) c.in-Some.ensures
