@@ -15,6 +15,7 @@ pub struct BatchSearch {
 }
 
 /// What a batch is given of one file, and does not change.
+#[derive(Drop)]
 pub struct BatchRun<'a, R, S, F> {
     /// Where memory is taken.
     pub alloc: Global,
