@@ -23,6 +23,7 @@ use verdict_report::{Fault, Status};
 pub(crate) const SURVEY_STEPS: u64 = 1_000_000_000;
 
 /// What a batch of files is given, and does not change.
+#[derive(Drop)]
 pub(crate) struct BatchTask<'a, R> {
     /// Where memory is taken.
     pub(crate) alloc: Global,
