@@ -16,8 +16,9 @@ use std::alloc::Global;
 use std::sync::Wait;
 use std::thread::Threads;
 
-/// Conflicts of a seat in a round. Fewer would share sooner what is learned, but each seat goes back to level 0 for it.
-const ROUND_CONFLICTS: u64 = 200;
+/// Conflicts of a seat in a round. Fewer share sooner what is learned, but each seat goes back to level 0 for it: of five traces without a schedule the seats
+/// took 119 thousand conflicts in rounds of 100, and 123 thousand in rounds of 50.
+const ROUND_CONFLICTS: u64 = 100;
 
 /// Runs a round: each of these leaves stands for a seat. Returns how many conflicts there were.
 fn run_round<R: Threads + Wait + Sync, L: ClauseList + Sync, S: SharingLearner + Drop + Send>(

@@ -15,7 +15,7 @@ use std::alloc::{AllocError, Global};
 /// A derivation that the formula itself has no model.
 #[derive(Drop)]
 pub(crate) struct WholeRefutation {
-    /// The number of literals of the cubes that it serves. It leaves room for them: its ids begin after theirs.
+    /// The most literals of a cube that it serves. It leaves room for them: its ids begin after theirs, and it cites none of them.
     pub(crate) literals: usize,
     pub(crate) derivation: Derivation,
 }
@@ -25,7 +25,7 @@ impl WholeRefutation {
     fn answer(&self, alloc: Global, cube: &[Lit], budget: u64) -> Result<Option<Answer>, AllocError>
         ensures { IfOk result (λ found. IfSome found (λ answer. IsWithin budget answer)) }
     {
-        if self.literals != cube.len() {
+        if cube.len() > self.literals {
             return Ok(None);
         }
         let copy = copied(alloc, &self.derivation)?;
@@ -97,6 +97,14 @@ impl<'a> PreparedFormula<'a> {
             });
         }
         Ok(())
+    }
+
+    /// Returns the number of steps of the derivation for the formula itself, or 0 if there is none.
+    pub fn refutation_steps(&self) -> usize {
+        match &self.refutation {
+            Some(refutation) => refutation.derivation.steps().len(),
+            None => 0,
+        }
     }
 
     /// Returns the place of the cube among those that are refuted, or one past them. They are at most sixteen, so they are looked through.

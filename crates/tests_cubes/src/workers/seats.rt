@@ -20,21 +20,21 @@ pub const ONE_CLAUSE: &str = "p cnf 2 1\n1 2 0\n";
 /// A leaf for each of four searches.
 pub const FOUR_LEAVES: &[u8] = b"split 1\nsplit 2\nleaf\nleaf\nsplit 2\nleaf\nleaf\n";
 
-/// Conflicts of all four together: they are enough for three rounds of 200 each.
+/// Conflicts of all four together: they are enough for six rounds of 100 each.
 const BUDGET: u64 = 2400;
 
-/// Four searches. The second and the third lie in the third round, and the third after fewer conflicts.
+/// Four searches. The second and the third lie in the fifth round, and the third after fewer conflicts.
 const TWO_LIE: [(u32, TalkEnd); 4] = [
     (1000, TalkEnd::Lies),
-    (550, TalkEnd::Lies),
+    (475, TalkEnd::Lies),
     (450, TalkEnd::Lies),
     (1000, TalkEnd::Lies),
 ];
 
-/// The same, but that the second finds no memory in the midst of the second round.
+/// The same, but that the second finds no memory in the midst of the third round.
 const ONE_WITHOUT_MEMORY: [(u32, TalkEnd); 4] = [
     (1000, TalkEnd::Lies),
-    (300, TalkEnd::FindsNoMemory),
+    (250, TalkEnd::FindsNoMemory),
     (450, TalkEnd::Lies),
     (1000, TalkEnd::Lies),
 ];
@@ -42,9 +42,9 @@ const ONE_WITHOUT_MEMORY: [(u32, TalkEnd); 4] = [
 /// Four searches that find no memory, the last one in the second round.
 const NONE_WITH_MEMORY: [(u32, TalkEnd); 4] = [
     (1, TalkEnd::FindsNoMemory),
-    (200, TalkEnd::FindsNoMemory),
+    (100, TalkEnd::FindsNoMemory),
     (2, TalkEnd::FindsNoMemory),
-    (201, TalkEnd::FindsNoMemory),
+    (101, TalkEnd::FindsNoMemory),
 ];
 
 /// The answer that this number of workers finds by searches of these ends.
@@ -100,11 +100,11 @@ fn assert_found<R: Threads + Wait + Abort + Sync>(
     }
 }
 
-// Each addition of the second search rests on the one before it, and the first of a round on all of the round before. So its 550 additions are needed,
-// and of each other search 400: what they learned in two rounds.
+// Each addition of the second search rests on the one before it, and the first of a round on all of the round before. So its 475 additions are needed,
+// and of each other search 400: what they learned in four rounds.
 #[test]
 fn each_number_of_workers_finds_the_same(rt: HostRuntime) {
-    assert_found(rt.alloc(), &rt, &TWO_LIE, 1750);
+    assert_found(rt.alloc(), &rt, &TWO_LIE, 1675);
 }
 
 #[test]
@@ -115,10 +115,10 @@ fn a_search_that_lies_is_found_out(rt: HostRuntime) {
     assert!(&rt; check(alloc, &formula, &[], &derivation).is_err());
 }
 
-// The third search lies with its 450th addition. It rests on 400 of the first and of the fourth, and on the 299 of the second before its memory ended.
+// The third search lies with its 450th addition. It rests on 400 of the first and of the fourth, and on the 249 of the second before its memory ended.
 #[test]
 fn a_search_without_memory_is_left_out(rt: HostRuntime) {
-    assert_found(rt.alloc(), &rt, &ONE_WITHOUT_MEMORY, 1549);
+    assert_found(rt.alloc(), &rt, &ONE_WITHOUT_MEMORY, 1499);
 }
 
 #[test]
