@@ -4,9 +4,11 @@ ghost use Rattle.std.specs.List.{Contains};
 ghost use Rattle.cube_tree.specs.CubeTree.{cubes_of};
 ghost use Rattle.dimacs.specs.Assignment.{value_of};
 ghost use Rattle.schedule_decode.specs.Decode.{IsModelOfKept};
-ghost use Rattle.trace_semantics.specs.Legal.{IsLegal};
+ghost use Rattle.trace_semantics.specs.Legal.{IsLegal, HasNoSchedule};
 ghost use Rattle.result_ledger.specs.Ledger.{cubes_in};
-ghost use Rattle.trace_decision.specs.Decision.{IsDecided, NamesOpen, AreCubesOf};
+ghost use Rattle.reducer.specs.Reduction.{kept_trace};
+ghost use Rattle.clause_blocks.specs.Clauses.{clauses_of};
+ghost use Rattle.trace_decision.specs.Decision.{IsDecided, IsRefutation, NamesOpen, AreCubesOf};
 ghost use Rattle.trace_decision.specs.declared.decision.Decision.TheVariants.{Inconsistent};
 ghost use Rattle.trace_decision.specs.Rounds.{HaveEnded};
 
@@ -26,7 +28,7 @@ use reducer::reduced::Reduced;
 use result_ledger::{Ledger, Verdict, inconsistent_has_no_model, unknown_holds_all_models};
 use schedule_decode::decode::schedule_of;
 use seat_rounds::search_by_seats;
-use solver::{Answer, PreparedFormula, ReadsFromTable, SourceCounter};
+use solver::{Answer, CubeSolver, PreparedFormula, ReadsFromTable, SourceCounter};
 use std::alloc::{AllocError, Global};
 use std::sync::Wait;
 use std::thread::Threads;
@@ -159,46 +161,32 @@ fn prepared_formula<'a, R: Threads + Wait + Sync, G: Gate>(
     Ok(prepared)
 }
 
-/// Prepares the formula of these clauses, which are those of what is kept of the trace, and searches its cubes in rounds.
-fn search_clauses<R: Threads + Wait + Sync, G: Gate + Sync>(
+/// The steps that one derivation for the whole may take whatever the budget of a search is. The largest lock of 160 operations takes 786 thousand.
+const MOST_STEPS: u64 = 1_000_000;
+
+/// From this number of steps on a derivation for the whole stands once, in a tree of one leaf. A shorter one is copied to each leaf of the tree that was asked for.
+const LONG_STEPS: u64 = 10_000;
+
+/// Gives the refutation of the whole as one cube, if the solver has one.
+fn refute_as_one_cube<R: Threads + Wait + Sync, S: CubeSolver + Sync, G: Gate + Sync>(
     alloc: Global,
     rt: &R,
     reduced: &Reduced,
     clauses: &TraceClauses,
-    options: &Options,
+    solver: &S,
     gate: &G,
-) -> Result<Decided, SearchFault>
-    ensures cubes { IfOk result (λ decided. cubes_in decided.ledger ≡ cubes_of decided.tree) }
-    ensures ended { IfOk result (λ decided. HaveEnded clauses.now options.now decided.ledger decided.verdict) }
+) -> Result<Option<Refutation>, SearchFault>
+    requires { clauses.now ≡ reduced.now.kept }
+    ensures { IfOk result (λ found. IfSome found (λ refutation. IsRefutation (clauses_of (kept_trace reduced.now.whole)) refutation × HasNoSchedule reduced.now.whole)) }
 {
-    let reads_from = reads_from_table(alloc, clauses)?;
-    let kept = KeptTrace {
-        trace: reduced.kept(),
-        clauses,
+    let Ok(one_cube) = Options::new(1, 0, MOST_STEPS, 1) else {
+        return Ok(None);
     };
-    let prepared = prepared_formula(alloc, rt, kept, &reads_from, options, gate)?;
-    search_in_rounds(alloc, rt, clauses, &prepared, options, gate)
-}
-
-/// The steps that counting may take whatever the budget of a search is. The largest lock of 160 operations takes 786 thousand.
-const COUNTING_STEPS: u64 = 1_000_000;
-
-/// Counts sources in the whole formula of these clauses, as one cube, and searches nothing.
-fn count_clauses<R: Threads + Wait + Sync, G: Gate + Sync>(
-    alloc: Global,
-    rt: &R,
-    clauses: &TraceClauses,
-    options: &Options,
-    gate: &G,
-) -> Result<Decided, SearchFault>
-    ensures cubes { IfOk result (λ decided. cubes_in decided.ledger ≡ cubes_of decided.tree) }
-    ensures ended { IfOk result (λ decided. HaveEnded clauses.now options.now decided.ledger decided.verdict) }
-{
-    let reads_from = reads_from_table(alloc, clauses)?;
-    let encoding = guide_to_order(clauses).with_reads_from(&reads_from);
-    let prepared = PreparedFormula::of(alloc, clauses, encoding)?;
-    let counter = SourceCounter::of(&prepared);
-    search_in_rounds(alloc, rt, clauses, &counter, options, gate)
+    let decided = search_in_rounds(alloc, rt, clauses, solver, &one_cube, gate)?;
+    match decision_of(alloc, reduced, clauses, &one_cube, decided)? {
+        Decision::Inconsistent(refutation) => Ok(Some(refutation)),
+        _ => Ok(None),
+    }
 }
 
 /// Gives a refutation by counting, if there is one that the budget of the search was too small for. Its tree is one leaf, since each cube would have
@@ -214,17 +202,34 @@ fn refute_by_counting<R: Threads + Wait + Sync, G: Gate + Sync>(
     requires { clauses.now ≡ reduced.now.kept }
     ensures { IfOk result (λ found. IfSome found (λ refutation. IsDecided options.now reduced.now.whole (Inconsistent refutation))) }
 {
-    if options.budget() == 0 || options.budget() >= COUNTING_STEPS {
+    if options.budget() == 0 || options.budget() >= MOST_STEPS {
         return Ok(None);
     }
-    let Ok(counting) = Options::new(1, 0, COUNTING_STEPS, 1) else {
+    let reads_from = reads_from_table(alloc, clauses)?;
+    let encoding = guide_to_order(clauses).with_reads_from(&reads_from);
+    let prepared = PreparedFormula::of(alloc, clauses, encoding)?;
+    let counter = SourceCounter::of(&prepared);
+    refute_as_one_cube(alloc, rt, reduced, clauses, &counter, gate)
+}
+
+/// Gives the refutation of the whole that the search before the cubes has found, as one cube, if it is long: else each leaf of the certificate would have a copy of it,
+/// and `recheck` would check each.
+fn long_refutation<R: Threads + Wait + Sync, G: Gate + Sync>(
+    alloc: Global,
+    rt: &R,
+    reduced: &Reduced,
+    clauses: &TraceClauses,
+    prepared: &PreparedFormula,
+    gate: &G,
+) -> Result<Option<Refutation>, SearchFault>
+    requires { clauses.now ≡ reduced.now.kept }
+    ensures { IfOk result (λ found. IfSome found (λ refutation. IsRefutation (clauses_of (kept_trace reduced.now.whole)) refutation × HasNoSchedule reduced.now.whole)) }
+{
+    let steps = prepared.refutation_steps() as u64;
+    if steps < LONG_STEPS || steps > MOST_STEPS {
         return Ok(None);
-    };
-    let decided = count_clauses(alloc, rt, clauses, &counting, gate)?;
-    match decision_of(alloc, reduced, clauses, &counting, decided)? {
-        Decision::Inconsistent(refutation) => Ok(Some(refutation)),
-        _ => Ok(None),
     }
+    refute_as_one_cube(alloc, rt, reduced, clauses, prepared, gate)
 }
 
 /// Decides whether the whole trace has a legal schedule, within the limits of the options.
@@ -238,7 +243,16 @@ pub fn decide<R: Threads + Wait + Sync, G: Gate + Sync>(
     ensures { IfOk result (λ decision. IsDecided options.now reduced.now.whole decision) }
 {
     let clauses = TraceClauses::of(alloc, reduced)?;
-    let decided = search_clauses(alloc, rt, reduced, &clauses, options, gate)?;
+    let reads_from = reads_from_table(alloc, &clauses)?;
+    let kept = KeptTrace {
+        trace: reduced.kept(),
+        clauses: &clauses,
+    };
+    let prepared = prepared_formula(alloc, rt, kept, &reads_from, options, gate)?;
+    if let Some(refutation) = long_refutation(alloc, rt, reduced, &clauses, &prepared, gate)? {
+        return Ok(Decision::Inconsistent(refutation));
+    }
+    let decided = search_in_rounds(alloc, rt, &clauses, &prepared, options, gate)?;
     let decision = decision_of(alloc, reduced, &clauses, options, decided)?;
     if let Decision::Unknown(_) = &decision {
         if let Some(refutation) = refute_by_counting(alloc, rt, reduced, &clauses, options, gate)? {
