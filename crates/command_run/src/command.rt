@@ -9,6 +9,7 @@ ghost use Rattle.verdict_report.specs.Runs.{sink_run};
 
 use crate::asked_file::{close_asked, make_asked};
 use crate::clash::{clash_of, print_clash};
+use crate::engine_run::EngineRun;
 use crate::engine_runs::run_engine;
 use crate::explaining::{explain_outcome, explain_unmade};
 use crate::kept_run::KeptRun;
@@ -45,7 +46,12 @@ fn run_asked<'p, R: Threads + Wait + Sync, G: Gate + Sync, H: Host<'p>, O: Sink 
         result host.new }
     ensures known { IsExitStatus result }
 {
-    let outcome = run_engine(alloc, rt, progress, host, line, out, kept);
+    let run = EngineRun {
+        alloc,
+        rt,
+        progress,
+    };
+    let outcome = run_engine(&run, host, line, out, kept);
     tell_outcome(&outcome, err);
     if explains.is_wanted(is_terminal) {
         explain_outcome(alloc, host.failed_file(), line, &outcome, out, kept, err);

@@ -14,12 +14,13 @@ ghost use Rattle.verdict_report.specs.Runs.{sink_run};
 
 use crate::asked_gate::AskedGate;
 use crate::batch_runs::{BatchTask, batch_of};
+use crate::engine_run::EngineRun;
 use crate::formed_runs::decide_batch;
 use crate::kept_run::KeptRun;
 use crate::opening::open;
 use crate::refusals::write_refusals;
 use crate::search_runs::{search_of, survey_of};
-use crate::survey_runs::survey_file;
+use crate::survey_runs::{SurveyPaths, survey_file};
 use command_host::{Host, Recorder, SearchRequest};
 use command_line::Line;
 use cube_jobs::Gate;
@@ -32,6 +33,28 @@ use verdict_report::{
     Fault, Status, run_certified_verify, run_cnf, run_decode, run_judge, run_lrat, run_recheck,
     run_verify,
 };
+
+/// The files of a certificate that is checked for a part.
+#[derive(Clone, Copy)]
+struct PartCertificatePaths<'p> {
+    trace: &'p str,
+    cert: &'p str,
+    names: &'p str,
+}
+
+/// The files of a part.
+#[derive(Clone, Copy)]
+struct PartPaths<'p> {
+    trace: &'p str,
+    names: &'p str,
+}
+
+/// The files of a search with a certificate.
+#[derive(Clone, Copy)]
+struct CertifyPaths<'p> {
+    trace: &'p str,
+    cert: &'p str,
+}
 
 /// Judges the files at these paths, and writes the answer to the standard output.
 fn judge_files<'p, H: Host<'p>, W: Sink>(
@@ -54,9 +77,8 @@ fn judge_files<'p, H: Host<'p>, W: Sink>(
 }
 
 /// Writes the clause list of the trace in the file at this path to the standard output.
-fn translate_file<'p, R: Threads + Sync, H: Host<'p>, W: Sink>(
-    alloc: Global,
-    rt: &R,
+fn translate_file<'p, R: Threads + Sync, G, H: Host<'p>, W: Sink>(
+    run: &EngineRun<'_, R, G>,
     host: &mut H,
     trace: &'p str,
     workers: u32,
@@ -66,10 +88,10 @@ fn translate_file<'p, R: Threads + Sync, H: Host<'p>, W: Sink>(
     ensures { RunsOnFile H.calls (source_view H.Input.handed_out H.Input.is_at_end H.Input.failures H.Input.path) IsRunOfCnf
         host.old trace.now (sink_run W.written W.failures out.old out.new) result host.new }
 {
-    let mut trace = open(alloc, host, trace, kept.keeps);
+    let mut trace = open(run.alloc, host, trace, kept.keeps);
     // A line has 1 to 8 workers, which the engine asks for: its text is the same for each number.
     let workers = workers.max(1).min(8);
-    let outcome = run_cnf(alloc, rt, &mut trace, workers, out);
+    let outcome = run_cnf(run.alloc, run.rt, &mut trace, workers, out);
     kept.first = trace.into_text();
     outcome
 }
@@ -139,18 +161,16 @@ fn recheck_files<'p, H: Host<'p>, W: Sink>(
 fn recheck_part_files<'p, H: Host<'p>, W: Sink>(
     alloc: Global,
     host: &mut H,
-    trace: &'p str,
-    cert: &'p str,
-    names: &'p str,
+    paths: PartCertificatePaths<'p>,
     out: &mut W,
     kept: &mut KeptRun,
 ) -> Result<Status, Fault>
     ensures { RunsOnThreeFiles H.calls (source_view H.Input.handed_out H.Input.is_at_end H.Input.failures H.Input.path) IsRunOfPartRecheck
-        host.old trace.now cert.now names.now (sink_run W.written W.failures out.old out.new) result host.new }
+        host.old paths.entry.trace.now paths.entry.cert.now paths.entry.names.now (sink_run W.written W.failures out.old out.new) result host.new }
 {
-    let mut trace = open(alloc, host, trace, kept.keeps);
-    let mut cert = open(alloc, host, cert, kept.keeps);
-    let mut names = open(alloc, host, names, kept.keeps);
+    let mut trace = open(alloc, host, paths.trace, kept.keeps);
+    let mut cert = open(alloc, host, paths.cert, kept.keeps);
+    let mut names = open(alloc, host, paths.names, kept.keeps);
     let outcome = run_part_recheck(alloc, &mut trace, &mut cert, &mut names, out);
     kept.first = trace.into_text();
     kept.second = cert.into_text();
@@ -162,17 +182,16 @@ fn recheck_part_files<'p, H: Host<'p>, W: Sink>(
 fn part_files<'p, H: Host<'p>, W: Sink>(
     alloc: Global,
     host: &mut H,
-    trace: &'p str,
-    names: &'p str,
+    paths: PartPaths<'p>,
     shows_names: bool,
     out: &mut W,
     kept: &mut KeptRun,
 ) -> Result<Status, Fault>
     ensures { RunsOnFiles H.calls (source_view H.Input.handed_out H.Input.is_at_end H.Input.failures H.Input.path) (IsRunOfPart shows_names)
-        host.old trace.now names.now (sink_run W.written W.failures out.old out.new) result host.new }
+        host.old paths.entry.trace.now paths.entry.names.now (sink_run W.written W.failures out.old out.new) result host.new }
 {
-    let mut trace = open(alloc, host, trace, kept.keeps);
-    let mut names = open(alloc, host, names, kept.keeps);
+    let mut trace = open(alloc, host, paths.trace, kept.keeps);
+    let mut names = open(alloc, host, paths.names, kept.keeps);
     let outcome = run_part(alloc, &mut trace, &mut names, shows_names, out);
     kept.first = trace.into_text();
     kept.second = names.into_text();
@@ -182,9 +201,7 @@ fn part_files<'p, H: Host<'p>, W: Sink>(
 /// Decides whether the trace in the file at this path has a legal schedule, and writes the report to the standard output. The search is reported to
 /// the host.
 fn decide_file<'p, R: Threads + Wait + Sync, G: Gate + Sync, H: Host<'p>, W: Sink>(
-    alloc: Global,
-    rt: &R,
-    progress: &G,
+    run: &EngineRun<'_, R, G>,
     host: &mut H,
     trace: &'p str,
     search: &SearchRequest,
@@ -194,40 +211,37 @@ fn decide_file<'p, R: Threads + Wait + Sync, G: Gate + Sync, H: Host<'p>, W: Sin
     ensures { RunsSearch H.calls (source_view H.Input.handed_out H.Input.is_at_end H.Input.failures H.Input.path)
         host.old trace.now search.now (sink_run W.written W.failures out.old out.new) result host.new }
 {
-    let mut trace = open(alloc, host, trace, kept.keeps);
+    let mut trace = open(run.alloc, host, trace, kept.keeps);
     host.begin_search(search);
-    let gate = AskedGate::new(progress, search.tells_progress);
-    let outcome = run_verify(alloc, rt, &mut trace, &search.options, &gate, out);
+    let gate = AskedGate::new(run.progress, search.tells_progress);
+    let outcome = run_verify(run.alloc, run.rt, &mut trace, &search.options, &gate, out);
     kept.first = trace.into_text();
     outcome
 }
 
 /// The same, with a certificate. Its file is made or emptied before the trace is opened, and `Device` is answered if that is not possible.
 fn certify_file<'p, R: Threads + Wait + Sync, G: Gate + Sync, H: Host<'p>, W: Sink>(
-    alloc: Global,
-    rt: &R,
-    progress: &G,
+    run: &EngineRun<'_, R, G>,
     host: &mut H,
-    trace: &'p str,
-    cert: &'p str,
+    paths: CertifyPaths<'p>,
     search: &SearchRequest,
     out: &mut W,
     kept: &mut KeptRun,
 ) -> Result<Status, Fault>
     ensures { RunsCertified H.calls (source_view H.Input.handed_out H.Input.is_at_end H.Input.failures H.Input.path)
         (sink_view H.Output.written H.Output.failures H.Output.path)
-        host.old trace.now cert.now search.now (sink_run W.written W.failures out.old out.new) result host.new }
+        host.old paths.entry.trace.now paths.entry.cert.now search.now (sink_run W.written W.failures out.old out.new) result host.new }
 {
-    let Ok(file) = host.create(cert, true) else {
+    let Ok(file) = host.create(paths.cert, true) else {
         return Err(Fault::Device);
     };
-    let mut trace = open(alloc, host, trace, kept.keeps);
-    let mut file = Recorder::counting(alloc, file);
+    let mut trace = open(run.alloc, host, paths.trace, kept.keeps);
+    let mut file = Recorder::counting(run.alloc, file);
     host.begin_search(search);
-    let gate = AskedGate::new(progress, search.tells_progress);
+    let gate = AskedGate::new(run.progress, search.tells_progress);
     let outcome = run_certified_verify(
-        alloc,
-        rt,
+        run.alloc,
+        run.rt,
         &mut trace,
         &search.options,
         &gate,
@@ -245,9 +259,7 @@ fn certify_file<'p, R: Threads + Wait + Sync, G: Gate + Sync, H: Host<'p>, W: Si
 /// A command is added here by a function as [`judge_files`] and an arm for its line, and in `specs/CommandRun.antt` by a line of
 /// `RunsLine`.
 pub(crate) fn run_engine<'p, R: Threads + Wait + Sync, G: Gate + Sync, H: Host<'p>, W: Sink>(
-    alloc: Global,
-    rt: &R,
-    progress: &G,
+    run: &EngineRun<'_, R, G>,
     host: &mut H,
     line: &Line<'p>,
     out: &mut W,
@@ -259,21 +271,34 @@ pub(crate) fn run_engine<'p, R: Threads + Wait + Sync, G: Gate + Sync, H: Host<'
         host.old line.now (sink_run W.written W.failures out.old out.new) result host.new }
 {
     match line {
-        Line::Judge { trace, schedule } => judge_files(alloc, host, *trace, *schedule, out, kept),
-        Line::Cnf { trace, workers } => translate_file(
-            alloc, rt, host, *trace, *workers, out, kept,
+        Line::Judge { trace, schedule } => judge_files(
+            run.alloc, host, *trace, *schedule, out, kept,
         ),
-        Line::Decode { trace, model } => decode_files(alloc, host, *trace, *model, out, kept),
-        Line::Lrat { cnf, proof } => check_files(alloc, host, *cnf, *proof, out, kept),
+        Line::Cnf { trace, workers } => translate_file(run, host, *trace, *workers, out, kept),
+        Line::Decode { trace, model } => decode_files(run.alloc, host, *trace, *model, out, kept),
+        Line::Lrat { cnf, proof } => check_files(run.alloc, host, *cnf, *proof, out, kept),
         Line::Recheck { trace, cert, part } => match *part {
-            Some(names) => recheck_part_files(alloc, host, *trace, *cert, names, out, kept),
-            None => recheck_files(alloc, host, *trace, *cert, out, kept),
+            Some(names) => {
+                let paths = PartCertificatePaths {
+                    trace: *trace,
+                    cert: *cert,
+                    names,
+                };
+                recheck_part_files(run.alloc, host, paths, out, kept)
+            }
+            None => recheck_files(run.alloc, host, *trace, *cert, out, kept),
         },
         Line::Part {
             trace,
             names,
             shows_names,
-        } => part_files(alloc, host, *trace, *names, *shows_names, out, kept),
+        } => {
+            let paths = PartPaths {
+                trace: *trace,
+                names: *names,
+            };
+            part_files(run.alloc, host, paths, *shows_names, out, kept)
+        }
         Line::Verify {
             trace,
             cert,
@@ -282,10 +307,14 @@ pub(crate) fn run_engine<'p, R: Threads + Wait + Sync, G: Gate + Sync, H: Host<'
         } => {
             let search = search_of(*numbers, *tells_progress);
             match *cert {
-                Some(cert) => certify_file(
-                    alloc, rt, progress, host, *trace, cert, &search, out, kept,
-                ),
-                None => decide_file(alloc, rt, progress, host, *trace, &search, out, kept),
+                Some(cert) => {
+                    let paths = CertifyPaths {
+                        trace: *trace,
+                        cert,
+                    };
+                    certify_file(run, host, paths, &search, out, kept)
+                }
+                None => decide_file(run, host, *trace, &search, out, kept),
             }
         }
         Line::Survey {
@@ -295,11 +324,13 @@ pub(crate) fn run_engine<'p, R: Threads + Wait + Sync, G: Gate + Sync, H: Host<'
             progress: tells_progress,
         } => {
             let search = survey_of(*numbers, *tells_progress);
-            survey_file(
-                alloc, rt, progress, host, *trace, *files, &search, out, kept,
-            )
+            let paths = SurveyPaths {
+                trace: *trace,
+                files: *files,
+            };
+            survey_file(run, host, paths, &search, out, kept)
         }
-        Line::Refusals => write_refusals(alloc, out),
+        Line::Refusals => write_refusals(run.alloc, out),
         Line::Batch {
             traces,
             numbers,
@@ -307,8 +338,8 @@ pub(crate) fn run_engine<'p, R: Threads + Wait + Sync, G: Gate + Sync, H: Host<'
         } => {
             let search = batch_of(*numbers);
             let task = BatchTask {
-                alloc,
-                rt,
+                alloc: run.alloc,
+                rt: run.rt,
                 search: &search,
             };
             decide_batch(&task, host, traces.as_slice(), *output, out)

@@ -8,16 +8,32 @@ ghost use Rattle.verdict_report.specs.Runs.{source_run, sink_run};
 
 use crate::asked_gate::AskedGate;
 use crate::asked_text::open_asked;
+use crate::engine_run::EngineRun;
+use crate::inputs::SurveyInputs;
 use crate::kept_run::KeptRun;
 use command_host::{Host, SearchRequest};
+use command_line::SurveyFiles;
 use cube_jobs::Gate;
 use dimacs::Sink;
-use std::alloc::Global;
 use std::sync::Wait;
 use std::thread::Threads;
 use survey::BySaturation;
 use survey_report::{run_certified_survey, run_survey};
+use survey_verdict::SurveyRun;
 use verdict_report::{Fault, Source, Status};
+
+/// What a survey is asked for, and does not change.
+#[derive(Drop)]
+pub(crate) struct AskedSurvey<'a, 'p, R, G> {
+    /// What its engine is given.
+    pub(crate) run: &'a EngineRun<'a, R, G>,
+    /// The files that are read.
+    pub(crate) inputs: SurveyInputs<'p>,
+    /// The files that are asked for.
+    pub(crate) files: SurveyFiles<'p>,
+    /// How the trace is surveyed and searched.
+    pub(crate) search: &'a SearchRequest,
+}
 
 /// The survey of the request.
 fn surveyor_of(search: &SearchRequest) -> BySaturation {
@@ -35,27 +51,28 @@ pub(crate) fn survey_with<
     T: Source,
     W: Sink,
 >(
-    alloc: Global,
-    rt: &R,
-    progress: &G,
+    asked: &AskedSurvey<'_, 'p, R, G>,
     host: &mut H,
     trace: &mut T,
-    path: Option<&'p str>,
-    search: &SearchRequest,
     out: &mut W,
     kept: &mut KeptRun,
 ) -> Result<Status, Fault>
     ensures surveys { SurveysHinted H.calls (source_view H.Input.handed_out H.Input.is_at_end H.Input.failures H.Input.path)
-        host.old (source_run T.handed_out T.is_at_end T.failures trace.old trace.new) path.entry search.now
+        host.old (source_run T.handed_out T.is_at_end T.failures trace.old trace.new) asked.now.inputs.hint asked.now.search.now
         (sink_run W.written W.failures out.old out.new) result host.new }
     ensures same_trace { T.path trace.new ≡ T.path trace.old }
 {
-    let mut hint = open_asked(alloc, host, path, kept.keeps);
-    host.begin_search(search);
-    let surveyor = surveyor_of(search);
-    let options = &search.options;
-    let gate = AskedGate::new(progress, search.tells_progress);
-    let outcome = run_survey(alloc, rt, trace, &mut hint, &surveyor, options, &gate, out);
+    let mut hint = open_asked(asked.run.alloc, host, asked.inputs.hint, kept.keeps);
+    host.begin_search(asked.search);
+    let surveyor = surveyor_of(asked.search);
+    let gate = AskedGate::new(asked.run.progress, asked.search.tells_progress);
+    let run = SurveyRun {
+        alloc: asked.run.alloc,
+        rt: asked.run.rt,
+        options: &asked.search.options,
+        gate: &gate,
+    };
+    let outcome = run_survey(&run, &surveyor, trace, &mut hint, out);
     kept.second = hint.into_text();
     outcome
 }
@@ -72,13 +89,9 @@ pub(crate) fn certify_with<
     P: Sink,
     W: Sink,
 >(
-    alloc: Global,
-    rt: &R,
-    progress: &G,
+    asked: &AskedSurvey<'_, 'p, R, G>,
     host: &mut H,
     trace: &mut T,
-    path: Option<&'p str>,
-    search: &SearchRequest,
     cert: &mut C,
     names: &mut N,
     part: &mut P,
@@ -86,7 +99,7 @@ pub(crate) fn certify_with<
     kept: &mut KeptRun,
 ) -> Result<Status, Fault>
     ensures certifies { CertifiesHinted H.calls (source_view H.Input.handed_out H.Input.is_at_end H.Input.failures H.Input.path)
-        host.old (source_run T.handed_out T.is_at_end T.failures trace.old trace.new) path.entry search.now
+        host.old (source_run T.handed_out T.is_at_end T.failures trace.old trace.new) asked.now.inputs.hint asked.now.search.now
         (sink_run C.written C.failures cert.old cert.new)
         (sink_run N.written N.failures names.old names.new)
         (sink_run P.written P.failures part.old part.new)
@@ -97,14 +110,17 @@ pub(crate) fn certify_with<
     ensures same_names { N.path names.new ≡ N.path names.old }
     ensures same_part { P.path part.new ≡ P.path part.old }
 {
-    let mut hint = open_asked(alloc, host, path, kept.keeps);
-    host.begin_search(search);
-    let surveyor = surveyor_of(search);
-    let options = &search.options;
-    let gate = AskedGate::new(progress, search.tells_progress);
-    let outcome = run_certified_survey(
-        alloc, rt, trace, &mut hint, &surveyor, options, &gate, cert, names, part, out,
-    );
+    let mut hint = open_asked(asked.run.alloc, host, asked.inputs.hint, kept.keeps);
+    host.begin_search(asked.search);
+    let surveyor = surveyor_of(asked.search);
+    let gate = AskedGate::new(asked.run.progress, asked.search.tells_progress);
+    let run = SurveyRun {
+        alloc: asked.run.alloc,
+        rt: asked.run.rt,
+        options: &asked.search.options,
+        gate: &gate,
+    };
+    let outcome = run_certified_survey(&run, &surveyor, trace, &mut hint, cert, names, part, out);
     kept.second = hint.into_text();
     outcome
 }

@@ -9,6 +9,7 @@ mod batch_runs;
 mod beside;
 mod clash;
 mod command;
+mod engine_run;
 mod engine_runs;
 mod explaining;
 mod formed_runs;

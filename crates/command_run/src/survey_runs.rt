@@ -8,7 +8,8 @@ ghost use Rattle.command_run.specs.CommandRun.{CertifiesSurveyed, RunsSurvey, Ru
 ghost use Rattle.verdict_report.specs.Runs.{sink_run};
 
 use crate::asked_file::{close_asked, make_asked};
-use crate::hinted_runs::{certify_with, survey_with};
+use crate::engine_run::EngineRun;
+use crate::hinted_runs::{AskedSurvey, certify_with, survey_with};
 use crate::inputs::SurveyInputs;
 use crate::kept_run::KeptRun;
 use crate::opening::open;
@@ -16,30 +17,31 @@ use command_host::{Host, SearchRequest};
 use command_line::SurveyFiles;
 use cube_jobs::Gate;
 use dimacs::Sink;
-use std::alloc::Global;
 use std::sync::Wait;
 use std::thread::Threads;
 use verdict_report::{Fault, Status};
 
+/// The files of a survey.
+#[derive(Clone, Copy)]
+pub(crate) struct SurveyPaths<'p> {
+    /// The trace.
+    pub(crate) trace: &'p str,
+    /// The others.
+    pub(crate) files: SurveyFiles<'p>,
+}
+
 /// Decides whether the trace in the file at this path has a legal schedule, and writes the report to the standard output.
 fn survey_opened<'p, R: Threads + Wait + Sync, G: Gate + Sync, H: Host<'p>, W: Sink>(
-    alloc: Global,
-    rt: &R,
-    progress: &G,
+    asked: &AskedSurvey<'_, 'p, R, G>,
     host: &mut H,
-    inputs: SurveyInputs<'p>,
-    search: &SearchRequest,
     out: &mut W,
     kept: &mut KeptRun,
 ) -> Result<Status, Fault>
     ensures { RunsSurveyed H.calls (source_view H.Input.handed_out H.Input.is_at_end H.Input.failures H.Input.path)
-        host.old inputs.entry search.now (sink_run W.written W.failures out.old out.new) result host.new }
+        host.old asked.now.inputs asked.now.search.now (sink_run W.written W.failures out.old out.new) result host.new }
 {
-    let mut trace = open(alloc, host, inputs.trace, kept.keeps);
-    let hint = inputs.hint;
-    let outcome = survey_with(
-        alloc, rt, progress, host, &mut trace, hint, search, out, kept,
-    );
+    let mut trace = open(asked.run.alloc, host, asked.inputs.trace, kept.keeps);
+    let outcome = survey_with(asked, host, &mut trace, out, kept);
     kept.first = trace.into_text();
     outcome
 }
@@ -55,12 +57,8 @@ fn certify_opened<
     P: Sink,
     W: Sink,
 >(
-    alloc: Global,
-    rt: &R,
-    progress: &G,
+    asked: &AskedSurvey<'_, 'p, R, G>,
     host: &mut H,
-    inputs: SurveyInputs<'p>,
-    search: &SearchRequest,
     cert: &mut C,
     names: &mut N,
     part: &mut P,
@@ -68,7 +66,7 @@ fn certify_opened<
     kept: &mut KeptRun,
 ) -> Result<Status, Fault>
     ensures runs { CertifiesSurveyed H.calls (source_view H.Input.handed_out H.Input.is_at_end H.Input.failures H.Input.path)
-        host.old inputs.entry search.now
+        host.old asked.now.inputs asked.now.search.now
         (sink_run C.written C.failures cert.old cert.new)
         (sink_run N.written N.failures names.old names.new)
         (sink_run P.written P.failures part.old part.new)
@@ -78,24 +76,16 @@ fn certify_opened<
     ensures same_names { N.path names.new ≡ N.path names.old }
     ensures same_part { P.path part.new ≡ P.path part.old }
 {
-    let mut trace = open(alloc, host, inputs.trace, kept.keeps);
-    let hint = inputs.hint;
-    let outcome = certify_with(
-        alloc, rt, progress, host, &mut trace, hint, search, cert, names, part, out, kept,
-    );
+    let mut trace = open(asked.run.alloc, host, asked.inputs.trace, kept.keeps);
+    let outcome = certify_with(asked, host, &mut trace, cert, names, part, out, kept);
     kept.first = trace.into_text();
     outcome
 }
 
 /// Does so with two sinks, and a file for the part if there is a path for it. It is made or opened first, and `Device` is answered if that is not possible.
 fn with_part<'p, R: Threads + Wait + Sync, G: Gate + Sync, H: Host<'p>, C: Sink, N: Sink, W: Sink>(
-    alloc: Global,
-    rt: &R,
-    progress: &G,
+    asked: &AskedSurvey<'_, 'p, R, G>,
     host: &mut H,
-    inputs: SurveyInputs<'p>,
-    path: Option<&'p str>,
-    search: &SearchRequest,
     cert: &mut C,
     names: &mut N,
     out: &mut W,
@@ -103,7 +93,7 @@ fn with_part<'p, R: Threads + Wait + Sync, G: Gate + Sync, H: Host<'p>, C: Sink,
 ) -> Result<Status, Fault>
     ensures runs { TakesPart H.calls (source_view H.Input.handed_out H.Input.is_at_end H.Input.failures H.Input.path)
         (sink_view H.Output.written H.Output.failures H.Output.path)
-        host.old inputs.entry path.entry search.now
+        host.old asked.now.inputs asked.now.files.part asked.now.search.now
         (sink_run C.written C.failures cert.old cert.new)
         (sink_run N.written N.failures names.old names.new)
         (sink_run W.written W.failures out.old out.new)
@@ -111,93 +101,66 @@ fn with_part<'p, R: Threads + Wait + Sync, G: Gate + Sync, H: Host<'p>, C: Sink,
     ensures same_cert { C.path cert.new ≡ C.path cert.old }
     ensures same_names { N.path names.new ≡ N.path names.old }
 {
-    let Ok(mut part) = make_asked(host, path) else {
+    let Ok(mut part) = make_asked(host, asked.files.part) else {
         return Err(Fault::Device);
     };
-    let outcome = certify_opened(
-        alloc, rt, progress, host, inputs, search, cert, names, &mut part, out, kept,
-    );
+    let outcome = certify_opened(asked, host, cert, names, &mut part, out, kept);
     close_asked(host, part);
     outcome
 }
 
 /// Does so with the certificate's sink, and a file for the names if there is a path for it, which is made or opened before that for the part.
 fn with_names<'p, R: Threads + Wait + Sync, G: Gate + Sync, H: Host<'p>, C: Sink, W: Sink>(
-    alloc: Global,
-    rt: &R,
-    progress: &G,
+    asked: &AskedSurvey<'_, 'p, R, G>,
     host: &mut H,
-    inputs: SurveyInputs<'p>,
-    path: Option<&'p str>,
-    part: Option<&'p str>,
-    search: &SearchRequest,
     cert: &mut C,
     out: &mut W,
     kept: &mut KeptRun,
 ) -> Result<Status, Fault>
     ensures runs { TakesNamesAndPart H.calls (source_view H.Input.handed_out H.Input.is_at_end H.Input.failures H.Input.path)
         (sink_view H.Output.written H.Output.failures H.Output.path)
-        host.old inputs.entry path.entry part.entry search.now
+        host.old asked.now.inputs asked.now.files.names asked.now.files.part asked.now.search.now
         (sink_run C.written C.failures cert.old cert.new)
         (sink_run W.written W.failures out.old out.new)
         result host.new }
     ensures same_cert { C.path cert.new ≡ C.path cert.old }
 {
-    let Ok(mut names) = make_asked(host, path) else {
+    let Ok(mut names) = make_asked(host, asked.files.names) else {
         return Err(Fault::Device);
     };
-    let outcome = with_part(
-        alloc, rt, progress, host, inputs, part, search, cert, &mut names, out, kept,
-    );
+    let outcome = with_part(asked, host, cert, &mut names, out, kept);
     close_asked(host, names);
     outcome
 }
 
 /// Does so with a file for each that there is a path for. That for the certificate is made or opened first.
 fn with_core<'p, R: Threads + Wait + Sync, G: Gate + Sync, H: Host<'p>, W: Sink>(
-    alloc: Global,
-    rt: &R,
-    progress: &G,
+    asked: &AskedSurvey<'_, 'p, R, G>,
     host: &mut H,
-    inputs: SurveyInputs<'p>,
-    files: SurveyFiles<'p>,
-    search: &SearchRequest,
     out: &mut W,
     kept: &mut KeptRun,
 ) -> Result<Status, Fault>
     ensures { TakesCore H.calls (source_view H.Input.handed_out H.Input.is_at_end H.Input.failures H.Input.path)
         (sink_view H.Output.written H.Output.failures H.Output.path)
-        host.old inputs.entry files.entry.cert files.entry.names files.entry.part search.now
+        host.old asked.now.inputs asked.now.files.cert asked.now.files.names asked.now.files.part asked.now.search.now
         (sink_run W.written W.failures out.old out.new)
         result host.new }
 {
-    let Ok(mut cert) = make_asked(host, files.cert) else {
+    let Ok(mut cert) = make_asked(host, asked.files.cert) else {
         return Err(Fault::Device);
     };
-    let outcome = with_names(
-        alloc,
-        rt,
-        progress,
-        host,
-        inputs,
-        files.names,
-        files.part,
-        search,
-        &mut cert,
-        out,
-        kept,
-    );
+    let outcome = with_names(asked, host, &mut cert, out, kept);
     close_asked(host, cert);
     outcome
 }
 
 /// The files that are read.
-fn inputs_of<'p>(trace: &'p str, files: SurveyFiles<'p>) -> SurveyInputs<'p>
-    ensures { result ≡ inputs_of_survey trace.entry files.entry }
+fn inputs_of<'p>(paths: SurveyPaths<'p>) -> SurveyInputs<'p>
+    ensures { result ≡ inputs_of_survey paths.entry.trace paths.entry.files }
 {
     SurveyInputs {
-        trace,
-        hint: files.hint,
+        trace: paths.trace,
+        hint: paths.files.hint,
     }
 }
 
@@ -211,26 +174,28 @@ fn takes_none(files: SurveyFiles<'_>) -> bool
 /// Decides whether the trace in the file at this path has a legal schedule, and writes what shows an INCONSISTENT to the files that are
 /// asked for. They are made or opened before the trace is opened, and the hint is opened behind it.
 pub(crate) fn survey_file<'p, R: Threads + Wait + Sync, G: Gate + Sync, H: Host<'p>, W: Sink>(
-    alloc: Global,
-    rt: &R,
-    progress: &G,
+    run: &EngineRun<'_, R, G>,
     host: &mut H,
-    trace: &'p str,
-    files: SurveyFiles<'p>,
+    paths: SurveyPaths<'p>,
     search: &SearchRequest,
     out: &mut W,
     kept: &mut KeptRun,
 ) -> Result<Status, Fault>
     ensures { RunsSurvey H.calls (source_view H.Input.handed_out H.Input.is_at_end H.Input.failures H.Input.path)
         (sink_view H.Output.written H.Output.failures H.Output.path)
-        host.old trace.entry files.entry search.now
+        host.old paths.entry.trace paths.entry.files search.now
         (sink_run W.written W.failures out.old out.new)
         result host.new }
 {
-    let inputs = inputs_of(trace, files);
-    if takes_none(files) {
-        survey_opened(alloc, rt, progress, host, inputs, search, out, kept)
+    let asked = AskedSurvey {
+        run,
+        inputs: inputs_of(paths),
+        files: paths.files,
+        search,
+    };
+    if takes_none(paths.files) {
+        survey_opened(&asked, host, out, kept)
     } else {
-        with_core(alloc, rt, progress, host, inputs, files, search, out, kept)
+        with_core(&asked, host, out, kept)
     }
 }

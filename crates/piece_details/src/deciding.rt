@@ -7,7 +7,7 @@ use reducer::reduced::{Reduced, reduce};
 use std::alloc::{AllocError, Global};
 use std::sync::Wait;
 use std::thread::Threads;
-use survey_verdict::{Surveyed, decide_by_survey};
+use survey_verdict::{SurveyRun, Surveyed, decide_by_survey};
 use surveyor::Surveyor;
 use text_lines::fault::PlacedFault;
 use text_lines::plain_fault::PlainFault;
@@ -40,7 +40,13 @@ fn decide_long<R: Threads + Wait + Sync, S: Surveyor>(
 ) -> Result<Option<Surveyed>, AllocError>
     ensures { IfOk result (λ found. IfSome found (IsShown trace.now)) }
 {
-    match decide_by_survey(alloc, rt, trace, &[], surveyor, options, &OpenGate) {
+    let run = SurveyRun {
+        alloc,
+        rt,
+        options,
+        gate: &OpenGate,
+    };
+    match decide_by_survey(&run, trace, &[], surveyor) {
         Ok(surveyed) => Ok(Some(surveyed)),
         Err(PlainFault::OutOfMemory) => Err(AllocError),
         Err(PlainFault::For(_)) => Ok(None),

@@ -12,7 +12,7 @@ ghost use Rattle.verdict_report.specs.VerifyEngine.{ReportsLegalSchedule};
 ghost use Rattle.verdict_report.specs.declared.status.Status.{Status};
 ghost use Rattle.verdict_report.specs.declared.status.Status.TheVariants.{No, Unknown, Yes};
 
-use cube_jobs::{Gate, Options};
+use cube_jobs::Gate;
 use dimacs::{Sink, SinkFault, write_whole};
 use schedule_text::schedule_reader::read_schedule;
 use std::alloc::Global;
@@ -22,7 +22,7 @@ use survey_verdict::laws::{
     core_certificate_is_accepted, core_names_spell, core_part_is_a_trace, core_part_spells,
 };
 use survey_verdict::{
-    Surveyed, decide_with_hint, names_of_core, part_of_core, report_of_survey,
+    SurveyRun, Surveyed, decide_with_hint, names_of_core, part_of_core, report_of_survey,
     write_survey_certificate,
 };
 use surveyor::Surveyor;
@@ -55,13 +55,10 @@ pub fn run_survey<
     G: Gate + Sync,
     W: Sink,
 >(
-    alloc: Global,
-    rt: &R,
+    run: &SurveyRun<'_, R, G>,
+    surveyor: &S,
     trace: &mut T,
     hint: &mut U,
-    surveyor: &S,
-    options: &Options,
-    gate: &G,
     out: &mut W,
 ) -> Result<Status, Fault>
     ensures run { IsRunOfSurvey
@@ -73,10 +70,10 @@ pub fn run_survey<
         (source_run T.handed_out T.is_at_end T.failures trace.old trace.new)
         (sink_run W.written W.failures out.old out.new) }
     ensures inconsistent { result ≡ Ok No → InputHasNoLegalSchedule (source_run T.handed_out T.is_at_end T.failures trace.old trace.new) }
-    ensures unknown { result ≡ Ok Unknown → TellsExtent options.now
+    ensures unknown { result ≡ Ok Unknown → TellsExtent run.now.options.now
         (source_run T.handed_out T.is_at_end T.failures trace.old trace.new)
         (sink_run W.written W.failures out.old out.new) }
-    ensures answered { (status : Status) → result ≡ Ok status → AnswersSurvey options.now (S.finds surveyor.now)
+    ensures answered { (status : Status) → result ≡ Ok status → AnswersSurvey run.now.options.now (S.finds surveyor.now)
         (source_run T.handed_out T.is_at_end T.failures trace.old trace.new)
         (source_run U.handed_out U.is_at_end U.failures hint.old hint.new)
         (sink_run W.written W.failures out.old out.new)
@@ -86,17 +83,9 @@ pub fn run_survey<
     ensures same_out { W.path out.new ≡ W.path out.old }
 {
     written_schedule_spells();
-    let texts = read_two(alloc, trace, hint)?;
-    let surveyed = survey_texts(
-        alloc,
-        rt,
-        texts.0.as_slice(),
-        texts.1.as_slice(),
-        surveyor,
-        options,
-        gate,
-    )?;
-    write_report(alloc, &surveyed, out)
+    let texts = read_two(run.alloc, trace, hint)?;
+    let surveyed = survey_texts(run, surveyor, texts.0.as_slice(), texts.1.as_slice())?;
+    write_report(run.alloc, &surveyed, out)
 }
 
 /// Does what [`run_survey`] does, and before the report writes three texts of an INCONSISTENT, each to a sink of its own: the certificate,
@@ -118,13 +107,10 @@ pub fn run_certified_survey<
     P: Sink,
     W: Sink,
 >(
-    alloc: Global,
-    rt: &R,
+    run: &SurveyRun<'_, R, G>,
+    surveyor: &S,
     trace: &mut T,
     hint: &mut U,
-    surveyor: &S,
-    options: &Options,
-    gate: &G,
     cert: &mut C,
     names: &mut N,
     part: &mut P,
@@ -141,20 +127,20 @@ pub fn run_certified_survey<
     ensures consistent { result ≡ Ok Yes → ReportsLegalSchedule
         (source_run T.handed_out T.is_at_end T.failures trace.old trace.new)
         (sink_run W.written W.failures out.old out.new) }
-    ensures certified { result ≡ Ok No → CertifiesSurvey options.now
+    ensures certified { result ≡ Ok No → CertifiesSurvey run.now.options.now
         (source_run T.handed_out T.is_at_end T.failures trace.old trace.new)
         (sink_run C.written C.failures cert.old cert.new)
         (sink_run N.written N.failures names.old names.new)
         (sink_run P.written P.failures part.old part.new)
         (sink_run W.written W.failures out.old out.new) }
-    ensures unknown { result ≡ Ok Unknown → TellsExtent options.now
+    ensures unknown { result ≡ Ok Unknown → TellsExtent run.now.options.now
         (source_run T.handed_out T.is_at_end T.failures trace.old trace.new)
         (sink_run W.written W.failures out.old out.new) }
     ensures silent { (status : Status) → result ≡ Ok status → (status ≡ No → ⊥) → TakeNothing (
         sink_run C.written C.failures cert.old cert.new
         ∷ sink_run N.written N.failures names.old names.new
         ∷ sink_run P.written P.failures part.old part.new ∷ []) }
-    ensures answered { (status : Status) → result ≡ Ok status → AnswersSurvey options.now (S.finds surveyor.now)
+    ensures answered { (status : Status) → result ≡ Ok status → AnswersSurvey run.now.options.now (S.finds surveyor.now)
         (source_run T.handed_out T.is_at_end T.failures trace.old trace.new)
         (source_run U.handed_out U.is_at_end U.failures hint.old hint.new)
         (sink_run W.written W.failures out.old out.new)
@@ -172,39 +158,28 @@ pub fn run_certified_survey<
     core_part_spells();
     core_names_spell();
     core_part_is_a_trace();
-    let texts = read_two(alloc, trace, hint)?;
-    let surveyed = survey_texts(
-        alloc,
-        rt,
-        texts.0.as_slice(),
-        texts.1.as_slice(),
-        surveyor,
-        options,
-        gate,
-    )?;
-    write_survey_certificate(alloc, &surveyed, cert)?;
-    write_names(alloc, &surveyed, names)?;
-    write_core_part(alloc, &surveyed, part)?;
-    write_report(alloc, &surveyed, out)
+    let texts = read_two(run.alloc, trace, hint)?;
+    let surveyed = survey_texts(run, surveyor, texts.0.as_slice(), texts.1.as_slice())?;
+    write_survey_certificate(run.alloc, &surveyed, cert)?;
+    write_names(run.alloc, &surveyed, names)?;
+    write_core_part(run.alloc, &surveyed, part)?;
+    write_report(run.alloc, &surveyed, out)
 }
 
 /// Gives what is decided of the trace that one text spells, with the hint that the other spells.
 fn survey_texts<R: Threads + Wait + Sync, S: Surveyor, G: Gate + Sync>(
-    alloc: Global,
-    rt: &R,
+    run: &SurveyRun<'_, R, G>,
+    surveyor: &S,
     text: &[u8],
     hint: &[u8],
-    surveyor: &S,
-    options: &Options,
-    gate: &G,
 ) -> Result<Surveyed, Fault>
     ensures said { IsSaidOfSurvey text.now hint.now result }
-    ensures surveyed { IfOk result (λ surveyed. IsSurveyedFrom options.now text.now surveyed) }
-    ensures follows { IfOk result (λ surveyed. FollowsFromTexts options.now (S.finds surveyor.now) text.now hint.now surveyed) }
+    ensures surveyed { IfOk result (λ surveyed. IsSurveyedFrom run.now.options.now text.now surveyed) }
+    ensures follows { IfOk result (λ surveyed. FollowsFromTexts run.now.options.now (S.finds surveyor.now) text.now hint.now surveyed) }
 {
-    let trace = read_trace(alloc, text)?;
-    let names = read_schedule(alloc, limits_for(&trace), hint)?;
-    Ok(decide_with_hint(alloc, rt, &trace, names, surveyor, options, gate)?)
+    let trace = read_trace(run.alloc, text)?;
+    let names = read_schedule(run.alloc, limits_for(&trace), hint)?;
+    Ok(decide_with_hint(run, &trace, names, surveyor)?)
 }
 
 /// The status that goes with what is decided.

@@ -16,8 +16,9 @@ ghost use Rattle.trace_semantics.specs.Trace.{operation_count};
 use crate::core_names::{all_names, names_among};
 use crate::extent::{count_operations, within_trace};
 use crate::named_operations::named_operations;
+use crate::survey_run::SurveyRun;
 use crate::surveyed::{ReasonCertificate, RefutedCore, Surveyed};
-use cube_jobs::{Gate, Options, SearchFault, Stage};
+use cube_jobs::{Gate, SearchFault, Stage};
 use reason_check::reasons_check::check_reasons;
 use reason_check::reasons_fault::ReasonsFault;
 use reducer::reduced::{Reduced, reduce};
@@ -66,36 +67,30 @@ fn reduced_if_small(alloc: Global, trace: &Trace) -> Result<Option<Reduced>, All
 
 /// Decides whether the whole trace has a legal schedule, between the two calls of the gate for this stage.
 fn decide_in_stage<R: Threads + Wait + Sync, G: Gate + Sync>(
-    alloc: Global,
-    rt: &R,
+    run: &SurveyRun<'_, R, G>,
     reduced: &Reduced,
     stage: Stage,
-    options: &Options,
-    gate: &G,
 ) -> Result<Decision, SearchFault>
-    ensures { IfOk result (λ decision. IsDecided options.now reduced.now.whole decision) }
+    ensures { IfOk result (λ decision. IsDecided run.now.options.now reduced.now.whole decision) }
 {
-    gate.begin(stage);
-    let decided = decide(alloc, rt, reduced, options, gate);
-    gate.end(stage);
+    run.gate.begin(stage);
+    let decided = decide(run.alloc, run.rt, reduced, run.options, run.gate);
+    run.gate.end(stage);
     decided
 }
 
 /// Gives what the search of this stage decides of the trace, if few enough operations are left of it.
 fn decided_if_short<R: Threads + Wait + Sync, G: Gate + Sync>(
-    alloc: Global,
-    rt: &R,
+    run: &SurveyRun<'_, R, G>,
     trace: &Trace,
     stage: Stage,
-    options: &Options,
-    gate: &G,
 ) -> Result<Option<Decision>, SearchFault>
-    ensures { IfOk result (IsDecidedIfShort options.now trace.now) }
+    ensures { IfOk result (IsDecidedIfShort run.now.options.now trace.now) }
 {
-    let small = reduced_if_small(alloc, trace)?;
+    let small = reduced_if_small(run.alloc, trace)?;
     match small {
         Some(reduced) => {
-            let decision = decide_in_stage(alloc, rt, &reduced, stage, options, gate)?;
+            let decision = decide_in_stage(run, &reduced, stage)?;
             Ok(Some(decision))
         }
         None => Ok(None),
@@ -115,16 +110,13 @@ fn refutation_of(decision: Decision) -> Option<Refutation>
 
 /// Gives what shows that the trace of a core has no legal schedule, if few enough operations are left of it and the search refutes it.
 fn refuted<R: Threads + Wait + Sync, G: Gate + Sync>(
-    alloc: Global,
-    rt: &R,
+    run: &SurveyRun<'_, R, G>,
     trace: &Trace,
-    options: &Options,
-    gate: &G,
 ) -> Result<Option<Refutation>, SearchFault>
-    ensures { IfOk result (IsRefutedIfShort options.now trace.now) }
+    ensures { IfOk result (IsRefutedIfShort run.now.options.now trace.now) }
 {
     let stage = Stage::Core(count_operations(trace));
-    let decided = decided_if_short(alloc, rt, trace, stage, options, gate)?;
+    let decided = decided_if_short(run, trace, stage)?;
     match decided {
         Some(decision) => Ok(refutation_of(decision)),
         None => Ok(None),
@@ -146,20 +138,17 @@ fn part_in_order(alloc: Global, trace: &Trace, names: &[OpName]) -> Result<Trace
 
 /// The core of those operations of the trace that were found, if the search refutes their part.
 fn refuted_core<R: Threads + Wait + Sync, G: Gate + Sync>(
-    alloc: Global,
-    rt: &R,
+    run: &SurveyRun<'_, R, G>,
     trace: &Trace,
     found: &[OpName],
-    options: &Options,
-    gate: &G,
 ) -> Result<Option<RefutedCore>, SearchFault>
-    ensures { IfOk result (IsRefutedChoice options.now trace.now (core_of trace.now found.now)) }
+    ensures { IfOk result (IsRefutedChoice run.now.options.now trace.now (core_of trace.now found.now)) }
 {
     trace.recall_invariant();
     unschedulable_where_its_part_is();
-    let names = names_among(alloc, trace, found)?;
-    let part = part_in_order(alloc, trace, names.as_slice())?;
-    let refuted = refuted(alloc, rt, part.trace(), options, gate)?;
+    let names = names_among(run.alloc, trace, found)?;
+    let part = part_in_order(run.alloc, trace, names.as_slice())?;
+    let refuted = refuted(run, part.trace())?;
     match refuted {
         Some(refutation) => Ok(Some(RefutedCore {
             names: Schedule::new(names),
@@ -173,19 +162,16 @@ fn refuted_core<R: Threads + Wait + Sync, G: Gate + Sync>(
 /// All operations as a core, if the search refutes the part that they make up. Else what refutes the trace itself: the part of all says
 /// less than the trace where a before pair goes back in one process, or an origin does not write.
 fn core_of_all<R: Threads + Wait + Sync, G: Gate + Sync>(
-    alloc: Global,
-    rt: &R,
+    run: &SurveyRun<'_, R, G>,
     trace: &Trace,
     refutation: Refutation,
-    options: &Options,
-    gate: &G,
 ) -> Result<Surveyed, SearchFault>
-    requires decided { IsDecided options.now trace.now (Inconsistent refutation) }
+    requires decided { IsDecided run.now.options.now trace.now (Inconsistent refutation) }
     requires few { operation_count (kept_trace trace.now) ≤ 160 }
-    ensures { (extent : Reached) → IfOk result (IsDecidedWhole options.now trace.now extent) }
+    ensures { (extent : Reached) → IfOk result (IsDecidedWhole run.now.options.now trace.now extent) }
 {
-    let names = all_names(alloc, trace)?;
-    let core = refuted_core(alloc, rt, trace, names.as_slice(), options, gate)?;
+    let names = all_names(run.alloc, trace)?;
+    let core = refuted_core(run, trace, names.as_slice())?;
     match core {
         Some(all) => Ok(Surveyed::Refuted(all)),
         None => Ok(Surveyed::Decided(Decision::Inconsistent(refutation))),
@@ -194,44 +180,36 @@ fn core_of_all<R: Threads + Wait + Sync, G: Gate + Sync>(
 
 /// Gives what is said of the whole trace, of which this is decided.
 fn said_of_whole<R: Threads + Wait + Sync, G: Gate + Sync>(
-    alloc: Global,
-    rt: &R,
+    run: &SurveyRun<'_, R, G>,
     trace: &Trace,
     decision: Decision,
     extent: Extent,
-    options: &Options,
-    gate: &G,
 ) -> Result<Surveyed, SearchFault>
-    requires decided { IsDecided options.now trace.now decision }
+    requires decided { IsDecided run.now.options.now trace.now decision }
     requires few { operation_count (kept_trace trace.now) ≤ 160 }
     requires placed { extent.placed ≤ operation_count trace.now }
-    ensures { IfOk result (IsDecidedWhole options.now trace.now extent) }
+    ensures { IfOk result (IsDecidedWhole run.now.options.now trace.now extent) }
 {
     match decision {
         Decision::Consistent(schedule) => Ok(Surveyed::Decided(Decision::Consistent(schedule))),
-        Decision::Inconsistent(refutation) => {
-            core_of_all(alloc, rt, trace, refutation, options, gate)
-        }
+        Decision::Inconsistent(refutation) => core_of_all(run, trace, refutation),
         Decision::Unknown(_cubes) => Ok(Surveyed::Undecided(extent)),
     }
 }
 
 /// Gives what the search shows of the whole trace, if few enough operations are left of it.
 fn decided_whole<R: Threads + Wait + Sync, G: Gate + Sync>(
-    alloc: Global,
-    rt: &R,
+    run: &SurveyRun<'_, R, G>,
     trace: &Trace,
     extent: Extent,
-    options: &Options,
-    gate: &G,
 ) -> Result<Surveyed, SearchFault>
     requires { extent.placed ≤ operation_count trace.now }
-    ensures { IfOk result (IsDecidedWhole options.now trace.now extent) }
+    ensures { IfOk result (IsDecidedWhole run.now.options.now trace.now extent) }
 {
     let stage = Stage::Whole(count_operations(trace));
-    let decided = decided_if_short(alloc, rt, trace, stage, options, gate)?;
+    let decided = decided_if_short(run, trace, stage)?;
     match decided {
-        Some(decision) => said_of_whole(alloc, rt, trace, decision, extent, options, gate),
+        Some(decision) => said_of_whole(run, trace, decision, extent),
         None => Ok(Surveyed::Undecided(extent)),
     }
 }
@@ -253,16 +231,13 @@ fn shown_by_schedule(
 
 /// Gives what the core of these names shows, if the search refutes its part.
 fn shown_by_core<R: Threads + Wait + Sync, G: Gate + Sync>(
-    alloc: Global,
-    rt: &R,
+    run: &SurveyRun<'_, R, G>,
     trace: &Trace,
     names: Vec<OpName>,
-    options: &Options,
-    gate: &G,
 ) -> Result<Option<Surveyed>, SearchFault>
-    ensures { IfOk result (IsShownBy options.now trace.now (CoreFound names)) }
+    ensures { IfOk result (IsShownBy run.now.options.now trace.now (CoreFound names)) }
 {
-    let refuted = refuted_core(alloc, rt, trace, names.as_slice(), options, gate)?;
+    let refuted = refuted_core(run, trace, names.as_slice())?;
     match refuted {
         Some(core) => Ok(Some(Surveyed::Refuted(core))),
         None => Ok(None),
@@ -334,23 +309,20 @@ fn shown_by_reasons(
 
 /// Gives what follows from what was found, if it is as it should be.
 fn shown<R: Threads + Wait + Sync, G: Gate + Sync>(
-    alloc: Global,
-    rt: &R,
+    run: &SurveyRun<'_, R, G>,
     trace: &Trace,
     finding: Finding,
-    options: &Options,
-    gate: &G,
 ) -> Result<Option<Surveyed>, SearchFault>
-    ensures { IfOk result (IsShownBy options.now trace.now finding) }
+    ensures { IfOk result (IsShownBy run.now.options.now trace.now finding) }
 {
     match finding {
         Finding::Schedule(names) => {
-            let shown = shown_by_schedule(alloc, trace, names)?;
+            let shown = shown_by_schedule(run.alloc, trace, names)?;
             Ok(shown)
         }
-        Finding::Core(names) => shown_by_core(alloc, rt, trace, names, options, gate),
+        Finding::Core(names) => shown_by_core(run, trace, names),
         Finding::Reasons(text) => {
-            let shown = shown_by_reasons(alloc, trace, text)?;
+            let shown = shown_by_reasons(run.alloc, trace, text)?;
             Ok(shown)
         }
         Finding::Nothing => Ok(None),
@@ -359,48 +331,42 @@ fn shown<R: Threads + Wait + Sync, G: Gate + Sync>(
 
 /// Gives what is decided by what was found, or else by the search of the whole after a survey that came this far.
 fn decide_by_finding<R: Threads + Wait + Sync, G: Gate + Sync>(
-    alloc: Global,
-    rt: &R,
+    run: &SurveyRun<'_, R, G>,
     trace: &Trace,
     finding: Finding,
     extent: Extent,
-    options: &Options,
-    gate: &G,
 ) -> Result<Surveyed, SearchFault>
-    ensures decided { IfOk result (IsSurveyed options.now trace.now) }
-    ensures follows { IfOk result (IsFoundOr options.now trace.now finding (IsOfWhole trace.now (extent_within trace.now extent))) }
+    ensures decided { IfOk result (IsSurveyed run.now.options.now trace.now) }
+    ensures follows { IfOk result (IsFoundOr run.now.options.now trace.now finding (IsOfWhole trace.now (extent_within trace.now extent))) }
 {
-    let shown = shown(alloc, rt, trace, finding, options, gate)?;
+    let shown = shown(run, trace, finding)?;
     match shown {
         Some(surveyed) => Ok(surveyed),
         None => {
             let told = within_trace(trace, extent);
-            decided_whole(alloc, rt, trace, told, options, gate)
+            decided_whole(run, trace, told)
         }
     }
 }
 
 /// Gives what is decided by the first of what was found that shows something, or else by the search of the whole.
 fn decide_by_overview<R: Threads + Wait + Sync, G: Gate + Sync>(
-    alloc: Global,
-    rt: &R,
+    run: &SurveyRun<'_, R, G>,
     trace: &Trace,
     overview: Overview,
-    options: &Options,
-    gate: &G,
 ) -> Result<Surveyed, SearchFault>
-    ensures decided { IfOk result (IsSurveyed options.now trace.now) }
-    ensures follows { IfOk result (FollowsFrom options.now trace.now overview) }
+    ensures decided { IfOk result (IsSurveyed run.now.options.now trace.now) }
+    ensures follows { IfOk result (FollowsFrom run.now.options.now trace.now overview) }
 {
     let Overview {
         finding,
         otherwise,
         extent,
     } = overview;
-    let shown = shown(alloc, rt, trace, finding, options, gate)?;
+    let shown = shown(run, trace, finding)?;
     match shown {
         Some(surveyed) => Ok(surveyed),
-        None => decide_by_finding(alloc, rt, trace, otherwise, extent, options, gate),
+        None => decide_by_finding(run, trace, otherwise, extent),
     }
 }
 
@@ -428,17 +394,14 @@ fn overview_of<S: Surveyor, G: Gate>(
 ///
 /// The surveyor is given the hint, operations in an order in which a schedule may have them, and nothing else is made of it.
 pub fn decide_by_survey<R: Threads + Wait + Sync, S: Surveyor, G: Gate + Sync>(
-    alloc: Global,
-    rt: &R,
+    run: &SurveyRun<'_, R, G>,
     trace: &Trace,
     hint: &[OpName],
     surveyor: &S,
-    options: &Options,
-    gate: &G,
 ) -> Result<Surveyed, SearchFault>
-    ensures decided { IfOk result (IsSurveyed options.now trace.now) }
-    ensures follows { IfOk result (FollowsFromSome options.now trace.now (S.finds surveyor.now trace.now)) }
+    ensures decided { IfOk result (IsSurveyed run.now.options.now trace.now) }
+    ensures follows { IfOk result (FollowsFromSome run.now.options.now trace.now (S.finds surveyor.now trace.now)) }
 {
-    let overview = overview_of(alloc, trace, hint, surveyor, gate)?;
-    decide_by_overview(alloc, rt, trace, overview, options, gate)
+    let overview = overview_of(run.alloc, trace, hint, surveyor, run.gate)?;
+    decide_by_overview(run, trace, overview)
 }

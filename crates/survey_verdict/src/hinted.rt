@@ -4,8 +4,9 @@ ghost use Rattle.survey_verdict.specs.Hinted.{FollowsWithHint, IsLegalExactlyIf}
 ghost use Rattle.survey_verdict.specs.Surveyed.{IsSurveyed};
 
 use crate::deciding::decide_by_survey;
+use crate::survey_run::SurveyRun;
 use crate::surveyed::Surveyed;
-use cube_jobs::{Gate, Options, SearchFault};
+use cube_jobs::{Gate, SearchFault};
 use schedule_judge::judge::judge;
 use std::alloc::{AllocError, Global};
 use std::sync::Wait;
@@ -33,20 +34,17 @@ fn is_legal(alloc: Global, trace: &Trace, schedule: &Schedule) -> Result<bool, A
 /// Decides whether the trace has a legal schedule: by the hint, if that is one, and else as [`decide_by_survey`] does, which hands the hint
 /// on to the surveyor. A hint may be wrong, and an empty one is none.
 pub fn decide_with_hint<R: Threads + Wait + Sync, S: Surveyor, G: Gate + Sync>(
-    alloc: Global,
-    rt: &R,
+    run: &SurveyRun<'_, R, G>,
     trace: &Trace,
     hint: Schedule,
     surveyor: &S,
-    options: &Options,
-    gate: &G,
 ) -> Result<Surveyed, SearchFault>
-    ensures decided { IfOk result (IsSurveyed options.now trace.now) }
-    ensures follows { IfOk result (FollowsWithHint options.now trace.now hint (S.finds surveyor.now trace.now)) }
+    ensures decided { IfOk result (IsSurveyed run.now.options.now trace.now) }
+    ensures follows { IfOk result (FollowsWithHint run.now.options.now trace.now hint (S.finds surveyor.now trace.now)) }
 {
-    let legal = is_legal(alloc, trace, &hint)?;
+    let legal = is_legal(run.alloc, trace, &hint)?;
     if legal {
         return Ok(Surveyed::Decided(Decision::Consistent(hint)));
     }
-    decide_by_survey(alloc, rt, trace, hint.names(), surveyor, options, gate)
+    decide_by_survey(run, trace, hint.names(), surveyor)
 }

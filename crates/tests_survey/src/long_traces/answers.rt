@@ -9,6 +9,7 @@ use std::process::Abort;
 use std::sync::Wait;
 use std::thread::Threads;
 use survey_report::{run_certified_survey, run_survey};
+use survey_verdict::SurveyRun;
 use surveyor::Surveyor;
 use verdict_report::{Fault, ShortSource, Status};
 
@@ -32,16 +33,13 @@ pub fn answer_with<R: Threads + Wait + Abort + Sync, S: Surveyor>(
     let mut source = ShortSource::new(trace.as_bytes(), 99);
     let mut hinted = ShortSource::new(hint.as_bytes(), 3);
     let mut report = MemorySink::new(alloc);
-    let outcome = run_survey(
+    let run = SurveyRun {
         alloc,
         rt,
-        &mut source,
-        &mut hinted,
-        surveyor,
-        &options,
-        &OpenGate,
-        &mut report,
-    );
+        options: &options,
+        gate: &OpenGate,
+    };
+    let outcome = run_survey(&run, surveyor, &mut source, &mut hinted, &mut report);
     Answered { outcome, report }
 }
 
@@ -69,14 +67,17 @@ pub fn texts_of<R: Threads + Wait + Abort + Sync, S: Surveyor>(
     let mut names = MemorySink::new(alloc);
     let mut part = MemorySink::new(alloc);
     let mut report = MemorySink::new(alloc);
-    let outcome = run_certified_survey(
+    let run = SurveyRun {
         alloc,
         rt,
+        options: &options,
+        gate: &OpenGate,
+    };
+    let outcome = run_certified_survey(
+        &run,
+        surveyor,
         &mut source,
         &mut hint,
-        surveyor,
-        &options,
-        &OpenGate,
         &mut certificate,
         &mut names,
         &mut part,

@@ -11,6 +11,7 @@ use std::sync::Wait;
 use std::thread::Threads;
 use survey::BySaturation;
 use survey_report::{run_certified_survey, run_survey};
+use survey_verdict::SurveyRun;
 use verdict_report::{Fault, ShortSource, Status};
 
 /// What is reported of store buffering: its core is all of it.
@@ -71,16 +72,13 @@ fn assert_cut_off<R: Threads + Wait + Abort + Sync>(
     number: usize,
 ) {
     let options = ample(rt, Options::new(1, 0, 10_000, 1));
-    let outcome = run_survey(
+    let run = SurveyRun {
         alloc,
         rt,
-        &mut trace,
-        &mut hint,
-        &SURVEY,
-        &options,
-        &OpenGate,
-        &mut report,
-    );
+        options: &options,
+        gate: &OpenGate,
+    };
+    let outcome = run_survey(&run, &SURVEY, &mut trace, &mut hint, &mut report);
     expect(rt, outcome == Err(Fault::Device), number);
     expect(rt, is_front(report.as_slice(), REPORT, taken), number);
 }
@@ -104,14 +102,17 @@ fn assert_certified_cut_off<R: Threads + Wait + Abort + Sync>(
         mut part,
         mut report,
     } = sinks;
-    let outcome = run_certified_survey(
+    let run = SurveyRun {
         alloc,
         rt,
+        options: &options,
+        gate: &OpenGate,
+    };
+    let outcome = run_certified_survey(
+        &run,
+        &SURVEY,
         &mut trace,
         &mut hint,
-        &SURVEY,
-        &options,
-        &OpenGate,
         &mut certificate,
         &mut names,
         &mut part,

@@ -22,13 +22,13 @@ pub returns-clause-consistent : goal.returns-clause-consistent
 returns-clause-consistent g c =
     let trace : SourceRun = source_run g.T.Source.handed_out g.T.Source.is_at_end g.T.Source.failures c.args.trace.now c.read_two.new.first in
     let out : SinkRun = sink_run g.W.Sink.written g.W.Sink.failures c.args.out.now c.write_report.new.out in
-    consistent trace c.in_ok-texts.texts.0.items c.in_ok-texts.ensures.read.0.0 c.args.options.now out c.written_schedule_spells.ensures c.in_ok-surveyed.surveyed (search rules) c.write_report.result c.write_report.ensures.run
+    consistent trace c.in_ok-texts.texts.0.items c.in_ok-texts.ensures.read.0.0 c.args.run.now.options.now out c.written_schedule_spells.ensures c.in_ok-surveyed.surveyed (search rules) c.write_report.result c.write_report.ensures.run
 
 pub returns-clause-unknown : goal.returns-clause-unknown
 returns-clause-unknown g c =
     let trace : SourceRun = source_run g.T.Source.handed_out g.T.Source.is_at_end g.T.Source.failures c.args.trace.now c.read_two.new.first in
     let out : SinkRun = sink_run g.W.Sink.written g.W.Sink.failures c.args.out.now c.write_report.new.out in
-    undecided trace c.in_ok-texts.texts.0.items c.in_ok-texts.ensures.read.0.0 c.args.options.now out c.written_schedule_spells.ensures c.in_ok-surveyed.surveyed (search rules) c.write_report.result c.write_report.ensures.run
+    undecided trace c.in_ok-texts.texts.0.items c.in_ok-texts.ensures.read.0.0 c.args.run.now.options.now out c.written_schedule_spells.ensures c.in_ok-surveyed.surveyed (search rules) c.write_report.result c.write_report.ensures.run
 
 pub returns-clause-certified : goal.returns-clause-certified
 returns-clause-certified g c =
@@ -37,7 +37,7 @@ returns-clause-certified g c =
     let names : SinkRun = sink_run g.N.Sink.written g.N.Sink.failures c.args.names.now c.write_names.new.names in
     let part : SinkRun = sink_run g.P.Sink.written g.P.Sink.failures c.args.part.now c.write_core_part.new.part in
     let out : SinkRun = sink_run g.W.Sink.written g.W.Sink.failures c.args.out.now c.write_report.new.out in
-    certified trace cert names part out c.in_ok-texts.texts.0.items c.in_ok-texts.ensures.read.0.0 c.args.options.now c.certificate_is_accepted.ensures.spelled c.certificate_is_accepted.ensures.accepted c.core_certificate_is_accepted.ensures c.core_part_spells.ensures c.core_names_spell.ensures c.core_part_is_a_trace.ensures
+    certified trace cert names part out c.in_ok-texts.texts.0.items c.in_ok-texts.ensures.read.0.0 c.args.run.now.options.now c.certificate_is_accepted.ensures.spelled c.certificate_is_accepted.ensures.accepted c.core_certificate_is_accepted.ensures c.core_part_spells.ensures c.core_names_spell.ensures c.core_part_is_a_trace.ensures
     c.in_ok-surveyed.surveyed (search rules) c.in_ok-write_survey_certificate.ensures.whole c.in_ok-write_names.ensures.whole c.in_ok-write_core_part.ensures.whole c.write_report.result c.write_report.ensures.run
 
 pub returns-clause-silent : goal.returns-clause-silent
@@ -108,6 +108,6 @@ returns-clause-answered g c =
     let trace : SourceRun = source_run g.T.Source.handed_out g.T.Source.is_at_end g.T.Source.failures c.args.trace.now c.read_two.new.first in
     let hint : SourceRun = source_run g.U.Source.handed_out g.U.Source.is_at_end g.U.Source.failures c.args.hint.now c.read_two.new.second in
     let out : SinkRun = sink_run g.W.Sink.written g.W.Sink.failures c.args.out.now c.write_report.new.out in
-    answered (g.S.Surveyor.finds c.args.surveyor.now) trace hint c.in_ok-texts.texts.0.items c.in_ok-texts.texts.1.items c.in_ok-texts.ensures.read c.args.options.now out c.in_ok-surveyed.surveyed
-    (subst (λ (read : List ℕ). FollowsFromTexts c.args.options.now (g.S.Surveyor.finds c.args.surveyor.now) read c.in_ok-texts.texts.1.items c.in_ok-surveyed.surveyed) c.as_slice.ensures.value
-    (subst (λ (read : List ℕ). FollowsFromTexts c.args.options.now (g.S.Surveyor.finds c.args.surveyor.now) c.as_slice.result.now read c.in_ok-surveyed.surveyed) c.as_slice-2.ensures.value c.in_ok-surveyed.ensures.follows)) c.write_report.result c.write_report.ensures.run
+    answered (g.S.Surveyor.finds c.args.surveyor.now) trace hint c.in_ok-texts.texts.0.items c.in_ok-texts.texts.1.items c.in_ok-texts.ensures.read c.args.run.now.options.now out c.in_ok-surveyed.surveyed
+    (subst (λ (read : List ℕ). FollowsFromTexts c.args.run.now.options.now (g.S.Surveyor.finds c.args.surveyor.now) read c.in_ok-texts.texts.1.items c.in_ok-surveyed.surveyed) c.as_slice.ensures.value
+    (subst (λ (read : List ℕ). FollowsFromTexts c.args.run.now.options.now (g.S.Surveyor.finds c.args.surveyor.now) c.as_slice.result.now read c.in_ok-surveyed.surveyed) c.as_slice-2.ensures.value c.in_ok-surveyed.ensures.follows)) c.write_report.result c.write_report.ensures.run

@@ -35,25 +35,25 @@ pub returns-clause-consistent : goal.returns-clause-consistent
 returns-clause-consistent g c =
     let trace : SourceRun = source_run g.T.Source.handed_out g.T.Source.is_at_end g.T.Source.failures c.args.trace.now c.read_two.new.first in
     let out : SinkRun = sink_run g.W.Sink.written g.W.Sink.failures c.args.out.now c.write_report.new.out in
-    consistent trace c.in_ok-texts.texts.0.items c.in_ok-texts.ensures.read.0.0 c.args.options.now out c.written_schedule_spells.ensures c.in_ok-surveyed.surveyed (search rules) c.write_report.result c.write_report.ensures.run
+    consistent trace c.in_ok-texts.texts.0.items c.in_ok-texts.ensures.read.0.0 c.args.run.now.options.now out c.written_schedule_spells.ensures c.in_ok-surveyed.surveyed (search rules) c.write_report.result c.write_report.ensures.run
 
 pub returns-clause-inconsistent : goal.returns-clause-inconsistent
 returns-clause-inconsistent g c =
     let trace : SourceRun = source_run g.T.Source.handed_out g.T.Source.is_at_end g.T.Source.failures c.args.trace.now c.read_two.new.first in
     let out : SinkRun = sink_run g.W.Sink.written g.W.Sink.failures c.args.out.now c.write_report.new.out in
-    inconsistent trace c.in_ok-texts.texts.0.items c.in_ok-texts.ensures.read.0.0 c.args.options.now out c.written_schedule_spells.ensures c.in_ok-surveyed.surveyed (search rules) c.write_report.result c.write_report.ensures.run
+    inconsistent trace c.in_ok-texts.texts.0.items c.in_ok-texts.ensures.read.0.0 c.args.run.now.options.now out c.written_schedule_spells.ensures c.in_ok-surveyed.surveyed (search rules) c.write_report.result c.write_report.ensures.run
 
 pub returns-clause-unknown : goal.returns-clause-unknown
 returns-clause-unknown g c =
     let trace : SourceRun = source_run g.T.Source.handed_out g.T.Source.is_at_end g.T.Source.failures c.args.trace.now c.read_two.new.first in
     let out : SinkRun = sink_run g.W.Sink.written g.W.Sink.failures c.args.out.now c.write_report.new.out in
-    undecided trace c.in_ok-texts.texts.0.items c.in_ok-texts.ensures.read.0.0 c.args.options.now out c.written_schedule_spells.ensures c.in_ok-surveyed.surveyed (search rules) c.write_report.result c.write_report.ensures.run
+    undecided trace c.in_ok-texts.texts.0.items c.in_ok-texts.ensures.read.0.0 c.args.run.now.options.now out c.written_schedule_spells.ensures c.in_ok-surveyed.surveyed (search rules) c.write_report.result c.write_report.ensures.run
 
 pub returns-clause-answered : goal.returns-clause-answered
 returns-clause-answered g c =
     let trace : SourceRun = source_run g.T.Source.handed_out g.T.Source.is_at_end g.T.Source.failures c.args.trace.now c.read_two.new.first in
     let hint : SourceRun = source_run g.U.Source.handed_out g.U.Source.is_at_end g.U.Source.failures c.args.hint.now c.read_two.new.second in
     let out : SinkRun = sink_run g.W.Sink.written g.W.Sink.failures c.args.out.now c.write_report.new.out in
-    answered (g.S.Surveyor.finds c.args.surveyor.now) trace hint c.in_ok-texts.texts.0.items c.in_ok-texts.texts.1.items c.in_ok-texts.ensures.read c.args.options.now out c.in_ok-surveyed.surveyed
-    (subst (λ (read : List ℕ). FollowsFromTexts c.args.options.now (g.S.Surveyor.finds c.args.surveyor.now) read c.in_ok-texts.texts.1.items c.in_ok-surveyed.surveyed) c.as_slice.ensures.value
-    (subst (λ (read : List ℕ). FollowsFromTexts c.args.options.now (g.S.Surveyor.finds c.args.surveyor.now) c.as_slice.result.now read c.in_ok-surveyed.surveyed) c.as_slice-2.ensures.value c.in_ok-surveyed.ensures.follows)) c.write_report.result c.write_report.ensures.run
+    answered (g.S.Surveyor.finds c.args.surveyor.now) trace hint c.in_ok-texts.texts.0.items c.in_ok-texts.texts.1.items c.in_ok-texts.ensures.read c.args.run.now.options.now out c.in_ok-surveyed.surveyed
+    (subst (λ (read : List ℕ). FollowsFromTexts c.args.run.now.options.now (g.S.Surveyor.finds c.args.surveyor.now) read c.in_ok-texts.texts.1.items c.in_ok-surveyed.surveyed) c.as_slice.ensures.value
+    (subst (λ (read : List ℕ). FollowsFromTexts c.args.run.now.options.now (g.S.Surveyor.finds c.args.surveyor.now) c.as_slice.result.now read c.in_ok-surveyed.surveyed) c.as_slice-2.ensures.value c.in_ok-surveyed.ensures.follows)) c.write_report.result c.write_report.ensures.run

@@ -7,7 +7,7 @@ use Rattle.survey_report.proofs.survey_engine.survey_texts.Goals as goal
 
 pub returns-clause-said : goal.returns-clause-said
 returns-clause-said g c = (
-  c.args.options.now,
+  c.args.run.now.options.now,
   record { value = c.in_ok-trace.trace; is_trace = c.in_ok-trace.ensures.trace; spelled = c.in_ok-trace.ensures.spelled; decided = c.in_ok-decide_with_hint.ensures.decided },
   record { names = c.in_ok-names.names; spelled = subst (λ (limits : Limits). SpellsSchedule limits c.args.hint.now c.in_ok-names.names) c.limits_for.ensures c.in_ok-names.ensures.spelled },
 )

@@ -7,8 +7,8 @@ use Rattle.survey_verdict.proofs.deciding.refuted.Goals as goal
 
 pub returns-in-Some : goal.returns-in-Some
 returns-in-Some g c =
-    subst (λ (r : Option Refutation). IsRefutedIfShort c.args.options.now c.args.trace.now r) (sym c.refutation_of.ensures)
-    (refuted_by c.args.options.now c.args.trace.now c.in-Some.decision (decided_so c.args.options.now c.args.trace.now c.in_ok-decided.decided c.in_ok-decided.ensures c.in-Some.decision c.in-Some.is))
+    subst (λ (r : Option Refutation). IsRefutedIfShort c.args.run.now.options.now c.args.trace.now r) (sym c.refutation_of.ensures)
+    (refuted_by c.args.run.now.options.now c.args.trace.now c.in-Some.decision (decided_so c.args.run.now.options.now c.args.trace.now c.in_ok-decided.decided c.in_ok-decided.ensures c.in-Some.decision c.in-Some.is))
 
 pub returns-in-None : goal.returns-in-None
-returns-in-None g c = inl (too_long c.args.options.now c.args.trace.now c.in_ok-decided.decided c.in_ok-decided.ensures c.in-None.is)
+returns-in-None g c = inl (too_long c.args.run.now.options.now c.args.trace.now c.in_ok-decided.decided c.in_ok-decided.ensures c.in-None.is)
