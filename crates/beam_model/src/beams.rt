@@ -11,7 +11,8 @@ use std::alloc::{AllocError, Global};
 use trace_log::log_of;
 use trace_semantics::trace::Trace;
 
-/// The number of beams. Of 24 hard traces with a schedule ten were scheduled by the first, and one more by the second; six beams more brought none.
+/// The number of beams. Of 24 hard traces with a schedule the first scheduled ten and the second, which is another kind, none of the others. Two more of
+/// these kinds scheduled one.
 const BEAMS: u32 = 2;
 
 /// The looks of each beam, some sixteenth of a second.

@@ -3,7 +3,7 @@
 /// The number of orders of writers by which the beam has come to a state, as a multiple of the same small number for all states of a layer.
 ///
 /// A state to which more ways lead has more room around it, so more ways mostly go on from it too. Without these numbers beams scheduled none of
-/// 17 logs of two values, and six with them.
+/// 17 logs of two values, and seven with them.
 #[derive(Clone, Copy, PartialEq, Eq)]
 pub(crate) struct Ways {
     count: u64,

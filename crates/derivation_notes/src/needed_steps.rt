@@ -18,7 +18,7 @@ pub struct NeededSteps<'d> {
     pub steps: Vec<NeededStep<'d>>,
 }
 
-/// The ids of clauses that are needed and not yet found among the steps.
+/// The ids of clauses that are needed. Steps are looked through from the last one back, so a mark is not taken away when its step is found: no earlier one has that id.
 #[derive(Drop)]
 struct Wanted {
     /// The number of clauses that are no steps'.

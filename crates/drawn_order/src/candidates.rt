@@ -28,7 +28,8 @@ impl Drop for HiddenSources {
     }
 }
 
-/// The place of the reader in the trace.
+/// The place of the reader in the trace. A box that is no operation and reads is a final value, which is read after all operations; that of an initial value reads
+/// nothing, so its place is never asked for.
 pub(crate) fn reader_place(reader: &PictureItem<'_>) -> ReaderPlace {
     if reader.is_operation() {
         ReaderPlace::At(reader.number)
@@ -97,7 +98,7 @@ impl HiddenSources {
         Ok(())
     }
 
-    /// The sources of the box that are not drawn; none if it reads nothing.
+    /// The sources of the box that are not drawn; none if it reads nothing. An initial value is none of them: its box is drawn with every box of its location.
     pub fn of(
         alloc: Global,
         part: PartTrace<'_>,

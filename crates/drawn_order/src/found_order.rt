@@ -134,7 +134,8 @@ impl FoundOrder {
         })
     }
 
-    /// Adds an arrow. The first one that closes a cycle marks it; later arrows are drawn and not followed.
+    /// Adds an arrow, even if its order is known: the arrow of a source is drawn even so, and a round of the search has found something if there are more arrows than
+    /// before. The first one that closes a cycle marks it; later arrows are drawn and not followed.
     pub(crate) fn add(
         &mut self,
         alloc: Global,

@@ -66,6 +66,8 @@ impl<'t> DrawnPart<'t> {
         let items = items_beside(alloc, part, choice)?;
         let mut is_open = Vec::new(alloc);
         let mut unseen = Vec::new(alloc);
+        // By now the choice has exactly the operations of the items. One that it had and no item were would be neither drawn nor hidden, and its readers would seem
+        // to have no source.
         for item in &items {
             let hidden = HiddenSources::of(alloc, part, choice, item)?;
             is_open.push(hidden.is_open)?;

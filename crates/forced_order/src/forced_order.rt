@@ -7,7 +7,8 @@ use std::alloc::{AllocError, Global};
 use std::marker::Model;
 use trace_semantics::trace::Trace;
 
-/// For each operation and each process, the last place there that is forced to stand before the operation.
+/// For each operation and each process, the last place there that is forced to stand before the operation: by program order, by what the trace says in `before` lines and
+/// times, and by steps of these one after the other. What is read forces nothing here.
 #[derive(Drop)]
 pub struct ForcedOrder {
     rows: OrderRows,

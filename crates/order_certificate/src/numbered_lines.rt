@@ -33,7 +33,7 @@ impl Drop for NumberedLines {
     }
 }
 
-/// A number for the word.
+/// A number for the word, to be mixed. Words of one kind begin far from those of another, so that few share a number; which words are equal, `are_equal` says.
 fn number_of(word: ReasonWord) -> u32 {
     match word {
         ReasonWord::Letter(letter) => letter as u32,

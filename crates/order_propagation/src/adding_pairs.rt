@@ -132,7 +132,8 @@ impl<'a> Propagation<'a> {
         Ok(())
     }
 
-    /// Lowers what stands after this operation to what the pair says, and wakes the readers to which that is news.
+    /// Lowers what stands after this operation to what the pair says, and wakes the readers to which that is news: those of the operation, if an access of its location is
+    /// among what is new, since it may hide the operation from them. An operation that writes nothing has none, so for it accesses are not looked for.
     #[inline(always)]
     fn lower_row(&mut self, number: OperationId) -> Result<(), AllocError> {
         let operation = self.log.operation(number);

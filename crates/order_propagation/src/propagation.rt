@@ -229,6 +229,8 @@ impl<'a> Propagation<'a> {
         &self.readers
     }
 
+    /// For each operation the last place of each process before it, and the first behind it. They do not have pairs that were only stored or guessed before
+    /// `propagate_in_rounds` has run.
     #[inline(always)]
     pub fn rows(&self) -> &ClosedRows {
         &self.rows

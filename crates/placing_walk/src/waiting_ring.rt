@@ -101,7 +101,8 @@ impl PlacingWalk {
         ProcessId::FIRST
     }
 
-    /// Returns what the process waits for, and a process that has to go on before.
+    /// Returns what the process waits for, and a process that has to go on before. A process that can go on, or that is at its end, stands for itself: so the chain of
+    /// links ends there, in a ring of one that nothing unties.
     fn link_of(&self, order: &mut Propagation<'_>, process: ProcessId) -> Link {
         let log = order.log();
         let awaited = at(self.awaited.as_slice(), process.number(), Awaited::Never);

@@ -8,7 +8,9 @@ use dimacs::{Failed, FailureCount, Sink};
 use std::fs::{File, OpenOptions};
 use std::rt::Files;
 
-/// Makes the file at this path, or opens the one that is there, which is emptied or keeps what it has.
+/// Makes the file at this path, or opens the one that is there, which is emptied or keeps what it has. It keeps that until something is written, so
+/// that a run that is refused, or has nothing for the file, loses nothing; but the certificate of `verify` is emptied at once, so that an earlier one
+/// is never taken for that of this run.
 fn open_to_write<R: Files<File = File>>(
     rt: &R,
     path: &str,

@@ -20,6 +20,7 @@ pub struct Progress<'a> {
     cubes: AtomicU64,
     taken: AtomicU64,
     settled: AtomicU64,
+    /// The conflicts of all searches since the start: a round sets the numbers of cubes back, and neither it nor the end of a stage sets these back.
     conflicts: AtomicU64,
 }
 
