@@ -215,7 +215,9 @@ impl<'a> BeamSearch<'a> {
         false
     }
 
-    /// Makes the first layer, whose only state has no writer placed.
+    /// Makes the first layer, whose only state has no writer placed. A layer has at most one successor for each state and process, so the tables of
+    /// seen states are made for `most`. What stays of an earlier beam does no harm: `layers_made` only has to rise, `left_of` is loaded before it is
+    /// read, and `schedule` and `most_placed` are what all beams have found.
     fn begin(&mut self, alloc: Global, beam: Beam) -> Result<(), AllocError> {
         let most = widest(beam).saturating_mul(self.log.processes());
         self.seen = SeenStates::new(alloc, most)?;

@@ -29,7 +29,9 @@ fn ranks(layout: &Layout, assignment: &Assignment) -> [u8; MAX_LAYOUT_OPERATIONS
     ranks
 }
 
-/// Returns whether the assignment says of an operation and each later one that the one of the lower rank stands first.
+/// Returns whether the assignment says of an operation and each later one that the one of the lower rank stands first. `recall_limits` gives the
+/// proof that there are at most 160 operations, so each has a rank in the table. `false` claims nothing and costs time alone: `eval` then looks at
+/// each clause of transitivity.
 fn agrees_from(
     layout: &Layout,
     assignment: &Assignment,

@@ -34,7 +34,8 @@ impl Store {
         Ok(Store { words })
     }
 
-    /// Returns the words of all clauses.
+    /// Returns the words of all clauses. Literals are read in them by offset: by `ReasonClause::literal`, from its `place` on, and by propagation,
+    /// which takes the first literal of a clause, `HEADER` words behind its offset.
     #[inline(always)]
     pub fn words(&self) -> &[u32] {
         self.words.as_slice()

@@ -19,6 +19,7 @@ use crate::verify_command::new_verify_command;
 use clap::Command;
 use std::alloc::{AllocError, Global};
 
+/// The version, and in brackets what `rt version` says: the kit and the logic by which the program was proved. `tests/manual` compares the two.
 const VERSION: &str = "0.2.0 (rattle-kit-13f logic dac8208d650f15bf)";
 
 const ABOUT: &str = "Checks memory traces against sequential consistency: whether one order of all
@@ -44,7 +45,8 @@ const EXPLAINS: &str = "Explains the answer or the refusal, on standard error";
 /// And if it writes none. It takes the option too, so that a script can give it to each command.
 const NO_NOTES: &str = "Changes nothing: this command writes no notes";
 
-// The program without its commands.
+// The program without its commands. `clap` would take its name in usage and errors from the first word; with `bin_name` these are the same texts
+// by whatever name it was called.
 fn bare_program<'a>(alloc: Global) -> Result<Command<'a>, AllocError>
     ensures { IfOk result (λ c. app_of c ≡ program_app) }
 {

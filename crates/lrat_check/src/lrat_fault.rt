@@ -23,6 +23,8 @@ impl FaultCause for LratCause {
 
     ghost name_of = { cause_name };
 
+    /// The number that a refusal prints before the name, as `refused: lrat 4 Unended at 1`, and that `vsc refusals` lists. It begins at 2, since 1
+    /// says in each table of causes that memory ran out.
     fn number(&self) -> u8 {
         match self {
             LratCause::BadLine => 2,

@@ -99,7 +99,9 @@ impl NumberedLines {
         self.letter(letter)
     }
 
-    /// Adds the letter to the line that is not finished.
+    /// Adds the letter to the line that is not finished: that of the line (`b`, `c`, `l`, `n`, `s`, `t` or `w`), of a member (`l`, `m` or `r`) or of a
+    /// piece (`f`, `h`, `i`, `H` or `L`), as docs/REASONS.md has them. No word is refused: `Explanation::finish` asks `is_full` when all reasons of a
+    /// conflict have their lines, and derives no step if it is.
     pub(crate) fn letter(&mut self, letter: u8) -> Result<(), AllocError> {
         self.word(ReasonWord::Letter(letter))
     }

@@ -60,8 +60,8 @@ impl Drop for ScheduleSearch {
     }
 }
 
-/// The most windows on top of one another.
-const MOST_WINDOWS: u32 = 12;
+/// How often windows are made narrower at most. With the first one there is one window more.
+const MOST_NARROWINGS: u32 = 12;
 
 /// The conflicts after which a walk gives up that decides only when it is stuck, and one that decides always.
 const FEW_CONFLICTS: u32 = 3000;
@@ -374,7 +374,9 @@ impl ScheduleSearch {
         }
     }
 
-    /// Tries windows around the places, from this width on, all of whose decisions are guesses.
+    /// Tries windows around the places, from this width on, all of whose decisions are guesses. A window has each operation stand before all others
+    /// whose estimated place is further behind its own than the width, a number of places among all operations. That leaves less to search, and it
+    /// may be wrong, so nothing but a schedule comes of it.
     fn try_windows(
         &mut self,
         alloc: Global,
@@ -402,7 +404,7 @@ impl ScheduleSearch {
         if !self.widen(order, places, base, (narrow, widest))? {
             return Ok(SearchEnding::Unknown);
         }
-        for _ in 0..MOST_WINDOWS {
+        for _ in 0..MOST_NARROWINGS {
             if order.undecided() < order.log().count() / 10 {
                 let rows = EstimatedPlaces::of_rows(alloc, order)?;
                 let found = self.walk(alloc, order, &rows, when_stuck(5))?;
@@ -481,7 +483,7 @@ impl ScheduleSearch {
         alloc: Global,
         order: &mut Propagation<'_>,
     ) -> Result<SearchEnding, AllocError> {
-        for _ in 0..MOST_WINDOWS {
+        for _ in 0..=MOST_NARROWINGS {
             let window = self.last_window(order);
             let part = (size(self.windows.as_slice()) as u64).saturating_add(2);
             if self.windows.pop().is_none() {

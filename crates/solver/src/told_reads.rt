@@ -30,7 +30,9 @@ fn first_value(reads_from: &ReadsFromTable, reader: u32) -> u32 {
         .wrapping_add(reads_from.location(reader))
 }
 
-/// Returns the choice as an edge from its reader to a source.
+/// Returns the choice as an edge from its reader to a source, with the number of the first of its clauses in the formula, by which a derivation
+/// cites them. An edge that is excluded is made too, and flagged: the clause of its reader has its variable, and a derivation that cites that clause
+/// has to cite why the variable is false.
 fn source_of(
     trail: &OrderedTrail<'_>,
     reads_from: &ReadsFromTable,
@@ -113,7 +115,7 @@ fn tell_finals(
     Ok(())
 }
 
-/// Returns the readers that need a source of their own, with the edges that are not excluded.
+/// Returns the readers that need a source of their own, with all their edges, of which those that are excluded are flagged.
 pub fn matching_instance(
     alloc: Global,
     trail: &OrderedTrail<'_>,

@@ -23,6 +23,8 @@ impl<T: Copy> Grid<T> {
         })
     }
 
+    /// Returns the entry, or the filling outside. The row is not compared: the place of an entry in the row before the first, or in the next one
+    /// behind the last, lies behind all items, if the table with one row more has at most 2^32 of them.
     #[inline(always)]
     pub fn get(&self, row: u32, column: u32) -> T {
         if column >= self.columns {
@@ -40,7 +42,8 @@ impl<T: Copy> Grid<T> {
         }
     }
 
-    /// Returns all entries, row by row.
+    /// Returns all entries, row by row and with nothing between rows. Rows of counts collect the numbers of all their clauses from it, and nothing
+    /// rests on the order.
     pub fn items(&self) -> &[T] {
         self.items.as_slice()
     }
