@@ -19,7 +19,8 @@ use crate::verify_command::new_verify_command;
 use clap::Command;
 use std::alloc::{AllocError, Global};
 
-/// The version, and in brackets what `rt version` says: the kit and the logic by which the program was proved. `tests/manual` compares the two.
+/// The version, and in brackets what `rt version` says: the kit and the logic by which the program was proved. `tests/manual` compares the logic, since machines
+/// come with different kits.
 const VERSION: &str = "0.2.0 (rattle-kit-13f logic dac8208d650f15bf)";
 
 const ABOUT: &str = "Checks memory traces against sequential consistency: whether one order of all

@@ -60,7 +60,7 @@ impl Drop for ScheduleSearch {
     }
 }
 
-/// How often windows are made narrower at most. With the first one there is one window more.
+/// The most windows that are made narrower than the one before. With the first one there is one window more.
 const MOST_NARROWINGS: u32 = 12;
 
 /// The conflicts after which a walk gives up that decides only when it is stuck, and one that decides always.
