@@ -53,6 +53,7 @@ use std::env;
 use std::fmt;
 use std::fs;
 use std::process;
+use std::sync::Mutex;
 use std::sync::atomic::{AtomicUsize, Ordering};
 use std::thread;
 use trace_semantics::schedule::Schedule;
@@ -61,6 +62,17 @@ use trace_text::trace_reader::read_trace;
 
 /// Seconds that the processor has spent on this program, in all of its threads.
 fn processor_seconds() -> f64 {
+    const OF_PROCESS: i32 = 2;
+    seconds_of(OF_PROCESS)
+}
+
+/// Seconds that the processor has spent on this thread.
+fn thread_seconds() -> f64 {
+    const OF_THREAD: i32 = 3;
+    seconds_of(OF_THREAD)
+}
+
+fn seconds_of(clock: i32) -> f64 {
     #[repr(C)]
     struct Time {
         seconds: i64,
@@ -69,9 +81,8 @@ fn processor_seconds() -> f64 {
     unsafe extern "C" {
         fn clock_gettime(clock: i32, time: *mut Time) -> i32;
     }
-    const OF_PROCESS: i32 = 2;
     let mut time = Time { seconds: 0, nanoseconds: 0 };
-    unsafe { clock_gettime(OF_PROCESS, &mut time) };
+    unsafe { clock_gettime(clock, &mut time) };
     time.seconds as f64 + time.nanoseconds as f64 * 1e-9
 }
 
@@ -84,6 +95,8 @@ struct Report {
     /// Conflicts of each seat in the rounds.
     seats: Vec<u64>,
     rounds: u64,
+    /// Seconds of the slowest seat of each round, in sum: what the rounds take where each seat has a processor.
+    longest: f64,
     /// The phases that took place, with the seconds of each.
     phases: Vec<(&'static str, f64)>,
     /// When the phase at hand began.
@@ -100,6 +113,7 @@ impl Report {
             handed_on: 0,
             seats: Vec::new(),
             rounds: 0,
+            longest: 0.0,
             phases: Vec::new(),
             begun: processor_seconds(),
             steps: None,
@@ -120,9 +134,9 @@ impl Report {
         let each: Vec<String> = self.phases.iter().map(|(phase, seconds)| format!("{phase} {seconds:.2}")).collect();
         let phases = each.join(" ");
         let steps = self.steps.map_or("none".to_string(), |(learned, trimmed)| format!("{learned} -> {trimmed}"));
-        let (found_by, first, handed_on, rounds) = (&self.found_by, self.first, self.handed_on, self.rounds);
+        let (found_by, first, handed_on, rounds, longest) = (&self.found_by, self.first, self.handed_on, self.rounds, self.longest);
         format!(
-            "{name}: {found_by}, {verdict}, first {first} (handed on {handed_on}), seats {seats} = {sum}, rounds {rounds}, seconds {phases}, \
+            "{name}: {found_by}, {verdict}, first {first} (handed on {handed_on}), seats {seats} = {sum}, rounds {rounds}, longest {longest:.2}, seconds {phases}, \
              derivation {steps}, {checked}"
         )
     }
@@ -167,17 +181,22 @@ fn leaf_cube(number: usize, depth: u32) -> Vec<Lit> {
     (0..depth).map(literal).collect()
 }
 
-/// Runs a round of all seats, each of which is taken by the next thread that is free.
-fn run_round<S: SharingLearner + Send>(seats: &Seats<S>, count: usize) {
+/// Runs a round of all seats, each of which is taken by the next thread that is free. Returns the seconds of the slowest.
+fn run_round<S: SharingLearner + Send>(seats: &Seats<S>, count: usize) -> f64 {
     let depth = count.next_power_of_two().trailing_zeros();
     let next = AtomicUsize::new(0);
+    let longest = Mutex::new(0.0_f64);
     let work = || {
         loop {
             let number = next.fetch_add(1, Ordering::SeqCst);
             if number >= count {
                 break;
             }
+            let begun = thread_seconds();
             seats.round.solve(Global, &leaf_cube(number, depth), 0).expect("memory");
+            let seconds = thread_seconds() - begun;
+            let mut longest = longest.lock().expect("no panic");
+            *longest = longest.max(seconds);
         }
     };
     thread::scope(|scope| {
@@ -186,6 +205,7 @@ fn run_round<S: SharingLearner + Send>(seats: &Seats<S>, count: usize) {
         }
         work();
     });
+    longest.into_inner().expect("no panic")
 }
 
 /// The lowest seat that has an answer.
@@ -208,7 +228,7 @@ fn search_by_seats<S: SharingLearner + Send>(searches: shim::Vec<Attempt<S>>, bu
         }
         left -= conflicts * sharers;
         seats.begin_round(conflicts).expect("memory");
-        run_round(&seats, count);
+        report.longest += run_round(&seats, count);
         report.rounds += 1;
         for (number, slot) in seats.round.seats.iter_mut().enumerate() {
             report.seats[number] += slot.get_mut().attempt.log.additions();

@@ -55,11 +55,7 @@ impl Trail {
         // What fills up short clauses is false from the start, so that propagation has no case for it.
         put(values.as_mut_slice(), NEVER, FALSE);
         put(values.as_mut_slice(), NEVER ^ 1, TRUE);
-        let mut phases = vec![in alloc; 1; places]?;
-        for variable in 0..tried_true {
-            put(phases.as_mut_slice(), variable.wrapping_add(1), 0);
-        }
-        Ok(Trail {
+        let mut trail = Trail {
             values,
             states: vec![in alloc; nothing; places]?,
             literals: vec![in alloc; 0; places]?,
@@ -67,8 +63,35 @@ impl Trail {
             head: 0,
             limits: vec![in alloc; 0; places.saturating_add(1)]?,
             level: 0,
-            phases,
-        })
+            phases: vec![in alloc; 1; places]?,
+        };
+        trail.try_first_as_begun(tried_true);
+        Ok(trail)
+    }
+
+    /// The first `tried_true` variables are tried as true first, the others as false.
+    pub fn try_first_as_begun(&mut self, tried_true: u32) {
+        self.try_false_first();
+        for variable in 0..tried_true {
+            put(self.phases.as_mut_slice(), variable.wrapping_add(1), 0);
+        }
+    }
+
+    /// Each variable is tried first with the value that it has here, 0 for true and 1 for false, or else as before.
+    pub fn try_first(&mut self, values: &[u8]) {
+        for variable in 0..size(values) {
+            let value = at(values, variable, 1);
+            if value <= 1 {
+                put(self.phases.as_mut_slice(), variable, value);
+            }
+        }
+    }
+
+    /// Each variable is tried first with the opposite value.
+    pub fn try_opposite_first(&mut self) {
+        for phase in self.phases.iter_mut() {
+            *phase ^= 1;
+        }
     }
 
     /// Draws the value that each variable is tried with first, as this seed has it.

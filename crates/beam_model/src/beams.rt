@@ -11,20 +11,22 @@ use std::alloc::{AllocError, Global};
 use trace_log::log_of;
 use trace_semantics::trace::Trace;
 
-/// The number of beams. Of 24 hard traces with a schedule the first scheduled ten and the second, which is another kind, none of the others. Two more of
-/// these kinds scheduled one.
+/// The number of beams.
 const BEAMS: u32 = 2;
 
-/// The looks of each beam, some sixteenth of a second.
-const LOOKS: u64 = 16_000_000;
-
-/// The beam of this number. The first keeps processes nearly equally far, the second lets them go apart.
+/// The beam of this number. The first keeps processes nearly equally far, the second lets them go apart. Of 43 hard traces with a schedule the first
+/// scheduled 26 and the second one other.
 fn beam(number: u32) -> Beam {
     Beam {
         width: 60,
         imbalance: if number == 0 { 100 } else { 5 },
         seed: number,
     }
+}
+
+/// The looks of the beam of this number, some eighth and sixteenth of a second. With half as many the first scheduled 20 of the 43.
+fn looks(number: u32) -> u64 {
+    if number == 0 { 32_000_000 } else { 16_000_000 }
 }
 
 /// The schedule of the first beam that finds one.
@@ -36,7 +38,7 @@ fn schedule_of(alloc: Global, log: &NumberedLog) -> Result<Option<Vec<OperationI
     let rows = ClosedRows::new(alloc, log)?;
     let mut search = BeamSearch::new(alloc, log, &classes, &rows)?;
     for number in 0..BEAMS {
-        let mut budget = Budget::new(LOOKS);
+        let mut budget = Budget::new(looks(number));
         let ending = search.run(alloc, beam(number), &mut budget)?;
         if ending == BeamEnding::Scheduled {
             return Ok(Some(Vec::from_slice(alloc, search.schedule())?));

@@ -14,7 +14,7 @@ use total_tables::{at, put, size};
 
 /// Conflicts of the search of the first cube. Without it some traces with a schedule in that cube took three times as long: the search of the
 /// formula itself comes upon the same cube first, but by another course, which took far more conflicts.
-const FIRST_CUBE_CONFLICTS: u64 = 2000;
+const FIRST_CUBE_CONFLICTS: u64 = 500;
 
 /// The activities of a search of fewer conflicts are not handed on: they say little. Those of others brought 41 traces without a schedule
 /// from 152 conflicts to 120 (geometric mean).

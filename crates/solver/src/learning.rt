@@ -17,6 +17,7 @@ impl<'a> Learner for Search<'a> {
         let Some(conflict) = self.conflict.take() else {
             return Ok(());
         };
+        self.note_first_values();
         self.analyze(conflict)
     }
 

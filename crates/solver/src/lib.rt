@@ -15,6 +15,7 @@
 
 mod analyze;
 mod before_cubes;
+mod first_values;
 mod hints;
 mod learning;
 mod minimise;

@@ -1,5 +1,6 @@
 //! The state of a conflict-driven search (CDCL): it decides, propagates, and learns from each conflict.
 
+use crate::first_values::FirstValues;
 use crate::prepared_formula::PreparedFormula;
 use crate::reduce::FIRST_REDUCTION;
 use crate::restart::{Restarts, SHORT_UNIT, UNIT};
@@ -37,6 +38,8 @@ pub struct Search<'a> {
     pub(crate) leading: Vec<u32>,
     /// If it is there, decisions follow a schedule first.
     pub(crate) schedule: Option<ScheduleHeuristic>,
+    /// If they are there, decisions take these values first, and not the saved ones.
+    pub(crate) first_values: Option<FirstValues>,
 
     // The conflict at hand.
     /// The learned clause.
@@ -84,6 +87,7 @@ impl Drop for Search<'_> {
             activities: _activities,
             leading: _leading,
             schedule: _schedule,
+            first_values: _first_values,
             learned: _learned,
             hints: _hints,
             resolved: _resolved,
@@ -148,6 +152,7 @@ impl<'a> Search<'a> {
             activities: Activities::new(alloc, variables, prepared.wanted.as_slice())?,
             leading: prepared.leading.clone()?,
             schedule: None,
+            first_values: None,
             learned: Vec::new(alloc),
             hints: Vec::new(alloc),
             resolved: Vec::new(alloc),
@@ -262,8 +267,18 @@ impl<'a> Search<'a> {
         None
     }
 
+    /// Returns the literal of the variable that is tried first.
+    fn tried_first(&self, variable: u32) -> u32 {
+        if let Some(first_values) = &self.first_values
+            && let Some(literal) = first_values.target(variable)
+        {
+            return literal;
+        }
+        self.trail.trail.tried_first(variable)
+    }
+
     /// Picks the next decision: a leading variable, else along the schedule if there is one, else the most active open variable with its
-    /// saved phase.
+    /// first value.
     fn decide(&mut self) -> Option<u32> {
         if let Some(literal) = self.decide_leading() {
             return Some(literal);
@@ -275,7 +290,7 @@ impl<'a> Search<'a> {
         }
         for _ in 0..=self.variables {
             let variable = self.activities.pop()?;
-            let literal = self.trail.trail.tried_first(variable);
+            let literal = self.tried_first(variable);
             if self.trail.value(literal) == OPEN {
                 return Some(literal);
             }
@@ -356,6 +371,29 @@ impl<'a> Search<'a> {
         Ok(())
     }
 
+    /// Notes the trail before the level of the conflict.
+    pub(crate) fn note_first_values(&mut self) {
+        if let Some(first_values) = &mut self.first_values {
+            first_values.note(&self.trail.trail);
+        }
+    }
+
+    /// Goes back to level 0 and changes the values that are tried first, when due.
+    fn change_first_values(&mut self) {
+        let are_due = match &self.first_values {
+            Some(first_values) => first_values.are_to_change(self.conflicts),
+            None => false,
+        };
+        if !are_due {
+            return;
+        }
+        self.trail.backtrack(0, &mut self.activities);
+        if let Some(first_values) = &mut self.first_values {
+            let order_variables = self.trail.order().variables();
+            first_values.change(&mut self.trail.trail, order_variables, self.conflicts);
+        }
+    }
+
     /// After a conflict: decays activities, and restarts or reduces the clause database when due.
     pub(crate) fn after_conflict(&mut self) -> Result<(), AllocError> {
         self.conflicts = self.conflicts.wrapping_add(1);
@@ -366,6 +404,7 @@ impl<'a> Search<'a> {
                 schedule.vary();
             }
         }
+        self.change_first_values();
         self.reduce_in_time()
     }
 }

@@ -1,5 +1,6 @@
 //! Searches of one formula that differ in what they decide first.
 
+use crate::first_values::FirstValues;
 use crate::prepared_formula::PreparedFormula;
 use crate::search::Search;
 use crate::solving::begin;
@@ -16,6 +17,20 @@ const DRAWN_VALUES: u32 = 2;
 /// The seat that tries false first.
 const FALSE_FIRST: u32 = 3;
 
+/// The first seat whose decisions take the values of its longest trail without a conflict. With two of them seven traces with a schedule took 339
+/// thousand conflicts, with three seeds, instead of 534 thousand, and five without one 121 thousand instead of 119. With all four one of these took 52
+/// thousand instead of 31.
+const FIRST_CHASER: u32 = 2;
+
+impl<'a> Search<'a> {
+    /// From now on decisions take the values of the longest trail without a conflict, by the course that searches of this number take.
+    fn chase_first_values(&mut self, number: u32) -> Result<(), AllocError> {
+        let first_values = FirstValues::new(self.alloc, self.variables, number, self.conflicts)?;
+        self.first_values = Some(first_values);
+        Ok(())
+    }
+}
+
 impl<'a> PreparedFormula<'a> {
     /// Begins a search of the formula itself that shares what it learns. Each number has its own order of decisions and values that are tried
     /// first; none decides the variables of the splits before others.
@@ -29,6 +44,9 @@ impl<'a> PreparedFormula<'a> {
         }
         if number == FALSE_FIRST {
             search.trail.trail.try_false_first();
+        }
+        if number >= FIRST_CHASER {
+            search.chase_first_values(number)?;
         }
         search.begin_to_share();
         Ok(search)
