@@ -23,8 +23,11 @@ const STIR_STEP: f64 = 1e-5;
 #[derive(Drop)]
 pub struct Activities {
     activities: Vec<f64>,
+    /// The increment of the next bump.
     bump: f64,
+    /// The heap: the children of slot s are in slots 2s + 1 and 2s + 2. Slots from `count` on are free.
     heap: Vec<u32>,
+    /// The number of variables in the heap.
     count: u32,
     /// Slot of each variable in the heap, plus one, or 0.
     places: Vec<u32>,
@@ -164,7 +167,7 @@ impl Activities {
         Some(variable)
     }
 
-    /// Bumps the variable: it was part of a conflict.
+    /// Bumps the variable: it was part of a conflict. Activities only grow, or are all scaled, so the heap needs no more than that it rises.
     pub fn bump(&mut self, variable: u32) {
         let activity = self.activity(variable) + self.bump;
         put(self.activities.as_mut_slice(), variable, activity);

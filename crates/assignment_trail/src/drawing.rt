@@ -1,6 +1,6 @@
 //! Numbers that look random, and are the same in each run.
 
-/// Returns a number for this one, as the seed has it.
+/// Returns a number for this one, as the seed has it. All its 32 bits are mixed, so a caller may take any of them, or a remainder.
 pub(crate) fn drawn(seed: u32, number: u32) -> u32 {
     let mut mixed = number.wrapping_add(1).wrapping_mul(0x9e37_79b1)
         ^ seed.wrapping_add(1).wrapping_mul(0x85eb_ca6b);

@@ -1,5 +1,7 @@
 //! Unit propagation through the reads-from clauses, which are never stored: sets of bits find what they imply, and a clause is made only
 //! when conflict analysis asks for it (lazy reasons, as in solvers modulo theories).
+//!
+//! A literal is given by its code: twice its variable, plus one if it is negative. So `^ 1` negates it, and `>> 1` gives its variable.
 
 use crate::ordered_trail::OrderedTrail;
 use crate::trail::{FALSE, OPEN};
@@ -7,7 +9,8 @@ use clause_database::{ReadsFromTable, ReadsFromVariable, Reason, ReasonClause};
 use order_sets::next_element;
 use proof_log::codes::NEVER;
 
-/// A reads-from clause as the reason of a literal: the reads-from variable, and a writer that must not come between.
+/// A reads-from clause as the reason of a literal: the reads-from variable, and a writer that must not come between. If the writer is the chosen
+/// one, the clause says that it stands before the reader.
 #[derive(Clone, Copy)]
 struct Because {
     choice: u32,
@@ -62,7 +65,7 @@ impl<'a> OrderedTrail<'a> {
         Ok(())
     }
 
-    /// Excludes this writer as a source of the reader, since another one comes between.
+    /// Makes this reads-from variable false, by its clause for this writer: that one comes between, or is the source and stands behind the reader.
     #[inline(always)]
     fn strike(
         &mut self,
@@ -214,6 +217,7 @@ impl<'a> OrderedTrail<'a> {
             }
             return Ok(());
         }
+        // The set of an element has the other writers of its location, whether it reads or writes.
         let (first, second) = self.order().ends(literal);
         if reads_from.writers().has(second, first) {
             self.follow_writer(reads_from, first, second)?;

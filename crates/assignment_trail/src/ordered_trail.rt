@@ -1,4 +1,6 @@
 //! A trail with an order that is transitively closed at each assignment.
+//!
+//! A literal is given by its code: twice its variable, plus one if it is negative. So `^ 1` negates it, and `>> 1` gives its variable.
 
 use crate::activities::Activities;
 use crate::candidates::Candidates;
@@ -97,7 +99,8 @@ impl<'a> OrderedTrail<'a> {
         }
     }
 
-    /// Returns the reason of a true literal as a clause.
+    /// Returns the reason of a true literal as a clause. A stored clause and that of a choice have the literal too, the others only those that made
+    /// it true: a caller has marked its variable before. A decision has an empty clause with the id 0.
     #[inline(always)]
     pub fn reason(&self, store: &Store, literal: u32) -> ReasonClause {
         match self.trail.state(literal >> 1).reason {
@@ -122,7 +125,7 @@ impl<'a> OrderedTrail<'a> {
         }
     }
 
-    /// Returns whether the literal is a decision.
+    /// Returns whether the literal, or its negation, was decided. It is asked of variables that have a value.
     pub fn was_decided(&self, literal: u32) -> bool {
         matches!(self.trail.state(literal >> 1).reason, Reason::Decision)
     }

@@ -1,4 +1,6 @@
 //! The trail: true literals in the order of their assignment.
+//!
+//! A literal is given by its code: twice its variable, plus one if it is negative. So `^ 1` negates it, and `>> 1` gives its variable.
 
 use crate::drawing::drawn;
 use clause_database::Reason;
@@ -29,12 +31,14 @@ pub struct VariableState {
 #[derive(Drop)]
 pub struct Trail {
     values: Vec<u8>,
+    /// The state of each variable. It has a meaning only while the variable has a value: when that is undone, it stays.
     states: Vec<VariableState>,
+    /// The true literals, up to `count`.
     literals: Vec<u32>,
     count: u32,
     /// Place of the first literal that has not been propagated.
     head: u32,
-    /// Place at which each level begins.
+    /// Place at which each level begins, from level 1 on: that of level k is the entry k - 1.
     limits: Vec<u32>,
     level: u32,
     /// Saved phases (Pipatsrisawat and Darwiche, 2007): the last value of each variable, which is tried first; 1 for false.
@@ -197,7 +201,7 @@ impl Trail {
         at(self.limits.as_slice(), level, self.count)
     }
 
-    /// Undoes the last assignment, and saves its phase.
+    /// Undoes the last assignment, saves its phase and returns its literal.
     #[inline(always)]
     pub fn pop(&mut self) -> u32 {
         self.count = self.count.wrapping_sub(1);
@@ -209,7 +213,7 @@ impl Trail {
         literal
     }
 
-    /// Truncates to this level, whose literals have all been propagated.
+    /// Truncates to this level, whose literals have all been propagated. The later ones have been popped before.
     pub fn resume(&mut self, level: u32) {
         self.level = level;
         self.head = self.count;

@@ -23,7 +23,8 @@ use std::thread::Threads;
 use surveyor::Surveyor;
 use verdict_report::{Fault, ReadFault, Source};
 
-/// Decides the first pieces of the text behind a number of lines: all that end in it.
+/// Decides the first pieces of the text: all that end in it. `before` is the number of lines of the file before the text, by which a fault of a piece has
+/// the line of the whole file. `is_last` says that the file ends with the text, so that its last piece ends too.
 fn decide_block<'a, R: Threads + Wait + Sync, S: Surveyor + Sync, F>(
     run: &BatchRun<'_, R, S, F>,
     text: &'a [u8],
@@ -52,7 +53,7 @@ fn decide_block<'a, R: Threads + Wait + Sync, S: Surveyor + Sync, F>(
     })
 }
 
-/// Writes the lines of pieces behind others of the file.
+/// Writes the lines of pieces behind others of the file. Here `before` is the number of pieces before these, and not of lines of the file.
 fn write_lines<R: Threads + Wait + Sync, S, D, F: LineForm<D>, W: Sink>(
     run: &BatchRun<'_, R, S, F>,
     devices: &mut D,
@@ -105,6 +106,7 @@ fn write_block<'a, R: Threads + Wait + Sync, S: Surveyor + Sync, D, F: LineForm<
     ensures same { W.path out.new ≡ W.path out.old }
 {
     if !progress.has_room() {
+        // Lines or pieces past 4 * 10^18 cannot be counted, and are refused as if there were no memory.
         return Err(SinkFault::OutOfMemory);
     }
     let block = match decide_block(run, held, is_last, progress.before) {
@@ -167,6 +169,7 @@ fn write_refusal<R: Threads + Wait + Sync, S, D, F: LineForm<D>, W: Sink>(
         return Err(SinkFault::OutOfMemory);
     }
     let piece = PlacedPiece {
+        // A refusal has no text of its own: it stands for what could not be read.
         text: &[],
         before: progress.before,
     };

@@ -6,7 +6,7 @@ use std::alloc::Global;
 /// How the traces of a batch are searched.
 #[derive(Clone, Copy)]
 pub struct BatchSearch {
-    /// How many threads decide traces.
+    /// How many threads decide traces, each one trace at a time. The program gives the two searches one worker each, since traces are decided side by side.
     pub workers: u32,
     /// How a trace of at most 160 operations is searched.
     pub short: Options,

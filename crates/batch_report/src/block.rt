@@ -41,7 +41,7 @@ pub struct DecidedPiece<'a> {
 pub struct NumberedPiece<'a> {
     /// The file as its lines name it.
     pub file: &'a str,
-    /// The number of the piece in the file.
+    /// The number of the piece in the file, from 1.
     pub number: usize,
     /// The piece and its verdict.
     pub found: DecidedPiece<'a>,
@@ -60,7 +60,8 @@ pub struct DecidedBlock<'a> {
     pub before: usize,
 }
 
-/// Cuts off the first pieces of a text behind a number of lines: all that end in the text, which may go on unless it is the last one.
+/// Cuts off the first pieces of a text behind a number of lines of the file: all that end in the text, which may go on unless it is the last one. A piece
+/// ends where the header of the next one is read, so the last piece of a text that may go on is left in the rest.
 pub(crate) fn cut_block(
     alloc: Global,
     text: &[u8],

@@ -13,7 +13,7 @@ use text_lines::lines::cut_line;
 use trace_pieces::says_something;
 use verdict_report::Fault;
 
-/// The place of the first line of a piece that says something, or of the first line.
+/// The place, from 0, of the first line of a piece that says something, or of the first line if none does.
 fn place_of_header(text: &[u8]) -> usize
     ensures { result ≡ said_at 0 (lines_of text.now) }
 {
@@ -29,7 +29,8 @@ fn place_of_header(text: &[u8]) -> usize
     0
 }
 
-/// The line of the header, or nothing if it is too large a number.
+/// The line of the header in the whole file, from 1, or nothing if it is too large a number. That does not happen, since `BatchProgress` bounds the lines
+/// that are counted; no contract hands this bound on, so the caller answers that memory ran out.
 fn line_of_header(found: &DecidedPiece<'_>) -> Option<usize>
     ensures { IfSome result (λ line. line ≡ header_line (finding_of found.now)) }
 {
@@ -50,7 +51,7 @@ fn push_number(
     text.extend_from_slice(line.as_bytes())
 }
 
-/// Appends the place of a refusal, if it has one.
+/// Appends the place of a refusal, if it has one. In a batch only a fault of the trace has a place, so it is a line.
 fn push_place(alloc: Global, text: &mut Vec<u8>, place: Option<usize>) -> Result<(), AllocError>
     ensures { OnOk result (text.new.items ≡ text.old.items ++ place_member place) }
 {

@@ -11,7 +11,7 @@ use dimacs::SinkFault;
 use std::sync::Wait;
 use std::thread::Threads;
 
-/// The lines of pieces behind others of the file.
+/// The lines of pieces behind others of the file: `before` is the number of pieces before these, and pieces are numbered from 1.
 pub(crate) fn lines_of<R: Threads + Wait + Sync, S, D, F: LineForm<D>>(
     run: &BatchRun<'_, R, S, F>,
     devices: &mut D,

@@ -14,13 +14,14 @@ pub enum PieceVerdict {
     Consistent,
     /// It has none, as a refutation shows, whose number of cubes this is.
     Refuted { cubes: u32 },
-    /// It has none, since the part of a core has none.
+    /// It has none, since the part of a core of this number of operations has none, and the refutation of the part has this number of cubes.
     RefutedCore { operations: usize, cubes: u32 },
-    /// It has none, as a certificate of reasons shows.
+    /// It has none, as a certificate of reasons shows, whose lines name this number of operations and make this number of clauses.
     Reasoned { operations: usize, reasons: usize },
-    /// The search has left cubes open.
+    /// The search has left this number of cubes open.
     Open { left: usize },
-    /// The survey has decided nothing.
+    /// Nothing is decided. The survey has placed this number of operations at most, and this number of reads and final values had more than one
+    /// possible source.
     Undecided { placed: u32, undecided: u32 },
     /// The piece is no trace, or there was no memory for it.
     Refused(Fault),

@@ -7,11 +7,11 @@ use crate::tally::VerdictTally;
 /// How far a batch came.
 #[derive(Clone, Copy)]
 pub(crate) struct BatchProgress {
-    /// The number of lines of the pieces that are decided.
+    /// The number of lines of the pieces of the file that are decided, from its beginning.
     pub before: usize,
     /// The number of these pieces.
     pub number: usize,
-    /// What was counted of them, and before them.
+    /// What was counted of them, and of the files before.
     pub tally: VerdictTally,
 }
 
@@ -30,7 +30,8 @@ impl BatchProgress {
     }
 }
 
-/// The most lines and the most pieces of a batch.
+/// The most lines and the most pieces of a file with which a block is begun. A block adds at most one for each of its 268,435,456 bytes, so sums stay
+/// below the 9 * 10^18 of the contracts, and within 64 bits.
 const MOST_COUNTED: usize = 4_000_000_000_000_000_000;
 
 impl BatchProgress {

@@ -20,6 +20,7 @@ fn blank_chunk(alloc: Global) -> Result<Vec<u8>, AllocError>
 /// The number of calls for the next block. They are more where much is held, so that a long piece is looked through a few times, and not
 /// as often as there are blocks in it; but what is held then passes the limit only if nearly as much was held before.
 fn calls_for(held: usize) -> usize {
+    // At least one call, so that a piece that goes on past the limit is refused, and not asked for again and again.
     let room = MAX_INPUT_BYTES.saturating_sub(held) / CHUNK;
     room.min(held / CHUNK + 16).max(1)
 }

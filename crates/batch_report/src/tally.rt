@@ -9,7 +9,7 @@ use verdict_report::{Fault, Status};
 /// What of the verdicts so far counts for the outcome.
 #[derive(Clone, Copy)]
 pub struct VerdictTally {
-    /// Whether a device failed.
+    /// Whether a device failed. It is kept apart from the refusals, since it outweighs all else, and only the first refusal is kept.
     pub has_failed: bool,
     /// Whether some trace has no legal schedule.
     pub has_no: bool,

@@ -9,7 +9,7 @@ use std::alloc::{AllocError, Global};
 use total_tables::{at, put, size};
 use var_layout::layout::Layout;
 
-/// The place of an operation that the schedule does not have.
+/// The place of an operation that the schedule does not have. It stands behind all others, since it is the largest number.
 const NOWHERE: u32 = 0xffff_ffff;
 
 /// The places of operations in a schedule, by their numbers in the layout.
@@ -20,6 +20,7 @@ struct Places<'a> {
 }
 
 impl<'a> Places<'a> {
+    /// The places of these operations. The log of a trace and its layout number operations alike, from 0, by process and then place.
     fn of(
         alloc: Global,
         layout: &'a Layout,
@@ -129,6 +130,7 @@ pub(crate) fn model_along(
     for k in 0..runs.count() {
         if let Some(choice) = places.choice(runs.run(k)) {
             let variable = choice.0;
+            // Variables are counted from 1.
             put(values.as_mut_slice(), variable.wrapping_sub(1), choice.1);
         }
     }

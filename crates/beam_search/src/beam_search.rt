@@ -1,4 +1,7 @@
 //! The search, layer by layer.
+//!
+//! Past the end of a table `at` reads as its last argument, and `put` does nothing; so arithmetic may wrap, and a wrong place makes no fault. A budget
+//! counts looks at entries of tables. Loops have a bound, mostly one that is never reached, since it is proved that each call ends.
 
 use crate::beam::Beam;
 use crate::best_successors::{NO_SUCCESSOR, NO_WORTH, Successor, best_of, greatest_excess};
@@ -17,27 +20,30 @@ use std::alloc::{AllocError, Global};
 use std::mem;
 use total_tables::{at, put, size};
 
-/// The most steps that are kept, one for each state of each layer.
+/// The most steps that are kept, one for each state of each layer. A search that has as many is given up.
 const MOST_STEPS: usize = 1 << 23;
 
-/// The most entries of the layers that are kept.
+/// The most entries of the layers that are kept. A layer that would exceed them is not kept, and the search goes on.
 const MOST_KEPT_ENTRIES: u64 = 1 << 23;
 
 /// The most layers that are made. One that is made again counts again.
 const MOST_LAYERS: u32 = 1 << 24;
 
-/// The looks of a state for each process and for each location.
+/// The looks of a state for each process and for each location, as an estimate: what making or loading a state takes out of the budget.
 const LOOKS_OF_PROCESS: u64 = 24;
 
 const LOOKS_OF_LOCATION: u64 = 4;
 
+/// A layer to which the search can go back.
 #[derive(Drop)]
 struct KeptLayer {
+    /// The number of layers before it, which is also its place in `begins`.
     depth: u32,
     layer: Layer,
 }
 
-/// A writer over what its location holds: what it leaves of that class, and what that costs.
+/// A writer over what its location holds: what it leaves of that class, and what that costs. A writer that comes over no counted class has
+/// `Changed::NOTHING` and no cost.
 #[derive(Clone, Copy)]
 struct Overwriting {
     changed: Changed,
@@ -65,16 +71,20 @@ pub struct BeamSearch<'a> {
     layer: Layer,
     /// Layers before it, to which the search can go back.
     kept: Vec<KeptLayer>,
+    /// The entries of all of these.
     kept_entries: u64,
-    /// The number of layers whose successors were looked for.
+    /// The number of layers whose successors were looked for. It is the mark of a layer in both tables of seen states, in which 0 stands for a free slot;
+    /// so it is raised before it is used.
     layers_made: u32,
     seen: SeenStates,
     seen_cells: SeenStates,
     grain: Grain,
+    /// What can follow the states of the layer at hand.
     successors: Vec<Successor>,
     /// For each layer where its states begin among the steps.
     begins: Vec<u32>,
-    /// For each state of each layer the number of its parent, times the number of processes, plus the process that went on.
+    /// For each state of each layer the number of its parent, times the number of processes, plus the process that went on. The parent is numbered within
+    /// the layer before. The state of the first layer has an entry too, which says nothing.
     steps: Vec<u32>,
     schedule: Vec<OperationId>,
     most_placed: u32,
@@ -194,6 +204,7 @@ impl<'a> BeamSearch<'a> {
 
     /// Goes back from a layer without states to one that was kept. Returns whether there is one.
     fn go_back(&mut self, dead_ends: &mut DeadEnds) -> bool {
+        // The layer that is gone back to leaves `kept`. When it has been followed, `make_next_layer` keeps it again.
         let Some(target) = dead_ends.note(self.depth()) else {
             return false;
         };
@@ -288,6 +299,7 @@ impl<'a> BeamSearch<'a> {
         };
         self.place(process, number, over.cost)?;
         budget.spend(self.looks());
+        // What `place` has changed is taken back by loading the parent again, as the next process begins there.
         self.note_successor(parent, process, beam)?;
         self.layer.load(parent, &mut self.state);
         Ok(())
@@ -309,6 +321,7 @@ impl<'a> BeamSearch<'a> {
             put(self.successors.as_mut_slice(), first, known);
             return Ok(());
         }
+        // A state without worth is pushed too: `seen` has noted the number of its entry. `best_of` passes it over.
         let worth = self.state.worth(&self.classed, &self.next_writers, beam);
         self.successors.push(Successor {
             parent,
@@ -326,7 +339,10 @@ impl<'a> BeamSearch<'a> {
         let held = self.state.held(location);
         let needed = self.classed.needed(number);
         let before = self.layer.left_of(parent);
+        // What is left of the class once the operation has come.
         let mut left = at(before, held.number(), NOTHING_LEFT);
+        // A class past the end is no class, or that of a value that no operation writes, of which nothing is counted. An update that leaves what it reads
+        // changes nothing.
         if held.number() >= size(before) || self.classed.left(number) == needed {
             return Some(Overwriting {
                 changed: Changed::NOTHING,
@@ -390,6 +406,7 @@ impl<'a> BeamSearch<'a> {
         excess: u32,
         budget: &mut Budget,
     ) -> Result<(), AllocError> {
+        // Of the layer at hand, so this comes before `begins` has an entry for the next one.
         let depth = self.depth();
         self.begins.push(size(self.steps.as_slice()))?;
         let classes = size(self.classed.left_of());
@@ -418,6 +435,7 @@ impl<'a> BeamSearch<'a> {
         self.layer.load(successor.parent, &mut self.state);
         self.layer.load_left_of(successor.parent, &mut self.left_of);
         let number = self.state.next(&self.classed, successor.process);
+        // `try_process` has found the same in the same parent, so there is one.
         let Some(over) = self.overwriting(successor.parent, number) else {
             return Ok(());
         };
@@ -432,6 +450,7 @@ impl<'a> BeamSearch<'a> {
         let processes = self.log.processes().max(1);
         let mut ways = Vec::new(alloc);
         let mut state = number;
+        // The layer of number 0 has no step that leads to it.
         for layer in (1..size(self.begins.as_slice())).rev() {
             let begin = at(self.begins.as_slice(), layer, 0);
             let step = at(self.steps.as_slice(), begin.wrapping_add(state), 0);

@@ -6,7 +6,8 @@ use crate::beam::Beam;
 /// The number of layers from one that is kept to the next that is.
 pub(crate) const SPACING: u32 = 16;
 
-/// How much wider the beam is at each further try of a place, and after the last.
+/// How much wider the beam is at each further try of a place, and after the last. Both are factors: of the width of the try before, and of the width that
+/// the beam has elsewhere.
 const WIDENING: u32 = 4;
 
 const MOST_WIDENING: u32 = 16;
@@ -17,10 +18,11 @@ pub(crate) struct DeadEnds {
     beam: Beam,
     /// The number of the layer that no layer followed, the highest of this place.
     depth: u32,
-    /// The number of layers that the search goes back.
+    /// The number of layers that the search goes back. It is doubled before each use, so the first time it is twice `SPACING`.
     back: u32,
     /// The width of the beam near this place.
     width: u32,
+    /// Whether the search has ended dead before. If not, the other numbers say nothing.
     is_any: bool,
 }
 
@@ -49,6 +51,7 @@ impl DeadEnds {
             self.width = self.beam.width;
             self.depth = depth;
         }
+        // Both have their values of the last try here, and are raised for this one behind it.
         if self.width == widest(self.beam) && self.back >= self.depth {
             return None;
         }

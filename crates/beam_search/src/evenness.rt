@@ -59,7 +59,9 @@ impl Changed {
 
 impl InAll {
     /// The cost of a class: d² / (v + 1), where d is what it has more or less than its share, and v is the variance of that. Both are taken times the
-    /// number of times in all, since that number may not divide them.
+    /// number of times in all, since that number may not divide them. If the class is held n times, and p is the part that plain writes have of the times
+    /// in all, v is n p (1 - p). The product of `UNEVENNESS` and the square wraps if the scaled difference exceeds about 960 million, as it may in logs of
+    /// some 100,000 writes of a location; then the cost says nothing.
     fn cost_of(self, its: ClassLeft) -> u64 {
         let times = its.times as u64;
         let share = times.wrapping_mul(self.spare);

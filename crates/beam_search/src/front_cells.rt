@@ -10,6 +10,7 @@ pub(crate) struct Grain {
     sixteenths: u32,
 }
 
+/// The least and the largest width, in sixteenths: 1 operation and 256.
 const NARROWEST: u32 = 16;
 
 const WIDEST: u32 = 1 << 12;
@@ -18,7 +19,7 @@ const WIDEST: u32 = 1 << 12;
 const CELLS_ASIDE: u64 = 1 << 20;
 
 impl Grain {
-    /// The width with which a beam begins.
+    /// The width with which a beam begins. It is 8 operations.
     pub(crate) const FIRST: Grain = Grain { sixteenths: 128 };
 
     /// The width for the next layer: a tenth wider if this one has more cells than its beam has states, a tenth narrower if it has far less.
@@ -41,6 +42,7 @@ impl Grain {
     fn cell(self, left: u64, share: u64) -> u32 {
         let width = self.sixteenths.max(1) as u64;
         let middle = width.wrapping_mul(CELLS_ASIDE).wrapping_add(width / 2);
+        // A process with less than its share has a difference below 0, as a complement; the sum with the middle is not below 0.
         let difference = left.wrapping_sub(share).wrapping_mul(16);
         ((middle.wrapping_add(difference) / width) & 0xffff_ffff) as u32
     }

@@ -1,4 +1,6 @@
 //! The states of a layer.
+//!
+//! Past the end of a table `at` reads as its last argument, and `put` does nothing; so arithmetic may wrap, and a wrong place makes no fault.
 
 use crate::classed_log::{ClassLeft, NOTHING_LEFT};
 use crate::state::State;
@@ -11,6 +13,7 @@ use total_tables::{at, piece, put, size};
 /// States in all of which as many writers are placed, one behind the other in flat tables, so that a state takes no memory of its own.
 pub(crate) struct Layer {
     count: u32,
+    /// The numbers of processes, locations and classes: a state has these numbers of entries in `fronts`, `held` and `left_of`.
     processes: u32,
     locations: u32,
     classes: u32,
@@ -39,7 +42,7 @@ impl Drop for Layer {
     }
 }
 
-/// Copies the entries from this place of the table on.
+/// Copies the entries from this place of the table on. As many are copied as the other table has, whose size stays.
 fn copy_out<T: Copy>(table: &[T], from: u32, into: &mut Vec<T>, otherwise: T) {
     let count = size(into.as_slice());
     let entries = piece(table, from, from.saturating_add(count));
@@ -85,7 +88,8 @@ impl Layer {
         of_state.saturating_mul(self.count as u64)
     }
 
-    /// Adds the state, given for each class what is left of it.
+    /// Adds the state, given for each class what is left of it. All tables must have the sizes that the layer was made for: places of states are multiples
+    /// of these.
     pub(crate) fn push(&mut self, state: &State, left_of: &[ClassLeft]) -> Result<(), AllocError> {
         append(&mut self.fronts, state.fronts.as_slice())?;
         append(&mut self.held, state.held.as_slice())?;
@@ -96,7 +100,7 @@ impl Layer {
         Ok(())
     }
 
-    /// Makes the state that of this number.
+    /// Makes the state that of this number. What is left of classes is loaded by `load_left_of`, and `placed` stays as it is.
     pub(crate) fn load(&self, number: u32, state: &mut State) {
         let fronts = number.wrapping_mul(self.processes);
         copy_out(

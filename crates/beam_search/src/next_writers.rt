@@ -12,6 +12,7 @@ const MOST_NEXT_WRITERS: u64 = 1 << 22;
 /// For each process, place and class the place of the first writer of the class from there on in the process, or `FAR`.
 pub(crate) struct NextWriters {
     classes: u32,
+    /// For each process the number of places of those before it. Each has one place behind its end, of which all entries stay `FAR`.
     starts: Vec<u32>,
     places: Vec<ProcessPlace>,
 }
@@ -46,6 +47,7 @@ impl NextWriters {
         classed: &ClassedLog,
         classes: u32,
     ) -> Result<NextWriters, AllocError> {
+        // Callers ask `has_room` first. In a table that is too small missing entries would read as `FAR`.
         let size = entries(log, classes).min(MOST_NEXT_WRITERS);
         let mut next = NextWriters {
             classes,

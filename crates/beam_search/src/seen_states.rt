@@ -8,7 +8,7 @@ pub(crate) struct SeenStates {
     /// The number of slots less one, which is a power of two less one.
     mask: u32,
     mixed: Vec<u64>,
-    /// For each slot the layer that has taken it, and the number of its state.
+    /// For each slot the layer that has taken it, and the number of its state. Layers are counted from 1, so 0 is a slot that none has taken.
     layers: Vec<u32>,
     numbers: Vec<u32>,
 }
@@ -51,7 +51,8 @@ impl SeenStates {
         })
     }
 
-    /// Notes the state of this mixed number in the layer, counted from 1. Returns the number of the first that was noted so: its own if it is new.
+    /// Notes the state of this mixed number in the layer, counted from 1. Returns the number of the first that was noted so: its own if it is new. A slot
+    /// of another layer ends the search, as if it were free; so no two layers may be noted in turns.
     pub(crate) fn note(&mut self, mixed: u64, layer: u32, number: u32) -> u32 {
         let mut slot = ((mixed >> 32) as u32) & self.mask;
         for _ in 0..MOST_PROBES {

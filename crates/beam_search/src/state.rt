@@ -1,4 +1,6 @@
 //! A state, and what can come next in it.
+//!
+//! Past the end of a table `at` reads as its last argument, and `put` does nothing; so arithmetic may wrap, and a wrong place makes no fault.
 
 use crate::classed_log::ClassedLog;
 use crate::ways::Ways;
@@ -10,21 +12,24 @@ use possible_sources::ClassId;
 use std::alloc::{AllocError, Global};
 use total_tables::{at, put, size};
 
-/// The gain of each plain read, and of each update, that is placed.
+/// The gain of each plain read, and of each update, that is placed. All gains and costs are in units of worth, of which twice as many ways have 14
+/// (`ways.rt`).
 const READ: i64 = 14;
 
 const UPDATE: i64 = 14;
 
 /// What is placed of each process, and what each location holds.
 pub(crate) struct State {
-    /// For each process the place of its next operation.
+    /// For each process the place of its next operation, from 1; the place behind the last one, if all are placed.
     pub(crate) fronts: Vec<ProcessPlace>,
-    /// For each location the class of what it holds.
+    /// For each location the class of what it holds. `ClassId::NONE` is what is held before the first write if the initial value is not known; no reader
+    /// fits it.
     pub(crate) held: Vec<ClassId>,
     /// What was gained by the operations that are placed, less what their order has cost.
     pub(crate) gain: i64,
     pub(crate) ways: Ways,
-    /// The operations that were placed, in their order, if they are kept.
+    /// The operations that were placed, in their order, if they are kept. Layers do not have them, so a state that is loaded from one keeps what stands
+    /// here. They are kept only while a schedule is read off.
     pub(crate) placed: Vec<OperationId>,
     pub(crate) keeps_placed: bool,
 }
@@ -156,6 +161,7 @@ impl State {
     /// case: to other operations they only matter if they are known to stand before them. It ends after some rounds, so one that waits for many
     /// others in turn may be left; it is placed as a writer is then.
     pub(crate) fn settle(&mut self, log: &ClassedLog, rows: &ClosedRows) -> Result<(), AllocError> {
+        // A round goes over all processes, and what it places may let others come in the next one.
         for _ in 0..self.processes().wrapping_add(1) {
             let mut is_news = false;
             for process in self.process_ids() {
@@ -182,6 +188,7 @@ impl State {
             let number = self.next(log, process);
             let needed = log.needed(number);
             let left = log.left(number);
+            // `NOBODY`, past the last operation, needs and leaves nothing: it ends the loop as a plain write does.
             let is_idle = needed != ClassId::NONE && (left == ClassId::NONE || left == needed);
             if !is_idle || !self.can_come(log, rows, process, number) {
                 break;
@@ -240,7 +247,7 @@ impl State {
     }
 
     /// A number that is the same of the same fronts and classes held, and mostly differs otherwise. Two states of one number are taken for one,
-    /// which can lose a schedule, and makes none wrong.
+    /// which can lose a schedule, and makes none wrong. What is left of classes follows from both, so it is not mixed in.
     pub(crate) fn mixed(&self) -> u64 {
         let mut mixed: u64 = 0x9e37_79b9_7f4a_7c15;
         for process in self.process_ids() {

@@ -6,6 +6,7 @@
 /// 17 logs of two values, and seven with them.
 #[derive(Clone, Copy, PartialEq, Eq)]
 pub(crate) struct Ways {
+    /// It is never 0.
     count: u64,
 }
 
@@ -46,6 +47,7 @@ impl Ways {
     #[inline(always)]
     pub(crate) fn worth(self) -> i64 {
         let exponent = 63_u32.saturating_sub(self.count.leading_zeros());
+        // The four bits behind the highest one. The shift loses nothing while the number is below 2 to the power of 60.
         let sixteenths = ((self.count << 4) >> (exponent & 63)) & 15;
         let logarithm = ((exponent as u64) << 4).wrapping_add(sixteenths);
         (logarithm.wrapping_mul(WORTH_OF_TWICE) >> 4) as i64

@@ -15,7 +15,7 @@ const MOST_FREE: u32 = 3;
 /// The cost of each operation up to the nearest writer of what a process waits for.
 const DISTANCE: i64 = 4;
 
-/// The low 32 bits of the number, as a signed one.
+/// The low 32 bits of the number, as a signed one that is never below 0. Larger numbers lose their upper bits.
 #[inline(always)]
 pub(crate) fn signed(number: u64) -> i64 {
     ((number & 0xffff_ffff) as u32) as i64
@@ -65,6 +65,7 @@ impl State {
             return true;
         }
         let location = log.location(number);
+        // Backwards, so that the last writer before it is met first. Numbers of a process follow each other.
         for back in 1..ahead.wrapping_add(1) {
             let earlier = number.back(back);
             let left = log.left(earlier);
@@ -95,8 +96,7 @@ impl State {
     }
 
     /// The cost of what is left of each process: the sum of the squared differences from its share, times the beam's cost, divided by the mean plus 1.
-    /// Few orders keep a process far behind to
-    /// the end, when the others have placed the writers of what it reads.
+    /// Few orders keep a process far behind to the end, when the others have placed the writers of what it reads.
     fn imbalance(&self, log: &ClassedLog, beam: Beam) -> i64 {
         let all = self.left_in_all(log);
         let mut squares: u64 = 0;

@@ -23,7 +23,7 @@ pub(crate) fn is_header_line(line: &[u8]) -> bool
     is_word(word, "vsc-cert") && is_word(version, "1")
 }
 
-/// The leaf whose section the line begins, as `proof` and a plain number.
+/// The leaf whose section the line begins, as `proof` and a plain number of 32 bits. Whether the tree has such a leaf is asked in `recheck`.
 pub(crate) fn read_begin(line: &[u8]) -> Option<u32>
     ensures { result ≡ begun_by (words_of line.now) }
 {

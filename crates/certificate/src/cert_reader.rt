@@ -19,7 +19,8 @@ use text_lines::comments::is_dimacs_skipped_line;
 use text_lines::fault::PlacedFault;
 use text_lines::lines::cut_line;
 
-/// Gives what follows the header, and the number of its line.
+/// Gives what follows the header, and the number of its line. If there is none, the fault stands at the first line that is neither the
+/// header nor skipped, or after the last line.
 fn read_header(text: &[u8]) -> Result<(&[u8], usize), CertFault>
     ensures headed { IfOk result (λ read. IsHeaded text.now read.0.now read.1) }
     ensures shorter { IfOk result (λ read. read.1 + length read.0.now ≤ length text.now) }
@@ -67,7 +68,7 @@ fn read_tree_behind(alloc: Global, text: &[u8], before: usize) -> Result<(Tree, 
     }
 }
 
-/// The number of lines of the tree.
+/// The number of lines of the tree: one for each node, and a tree has one split fewer than leaves.
 fn count_lines(tree: &Tree) -> usize
     ensures lines { result ≡ length (tree_lines tree.now) }
     ensures few { result < 2048 }
@@ -76,7 +77,8 @@ fn count_lines(tree: &Tree) -> usize
     2 * tree.leaves() as usize - 1
 }
 
-/// The tree of a certificate's text, what follows it, and the number of lines before that.
+/// The tree of a certificate's text, what follows it, and the number of lines before that. What follows is a copy, so that the whole text can
+/// be dropped.
 fn read_start(alloc: Global, text: &[u8]) -> Result<(Tree, Vec<u8>, usize), CertFault>
     ensures begun { IfOk result (λ read. BeginsWithTree text.now read.0 read.2 read.1.items) }
     ensures room { IfOk result (λ read. read.2 + length read.1.items + 2 < 2 ^ 64) }
@@ -90,7 +92,7 @@ fn read_start(alloc: Global, text: &[u8]) -> Result<(Tree, Vec<u8>, usize), Cert
     Ok((tree, rest, header + lines))
 }
 
-/// The same. The text is dropped.
+/// Reads as `read_start` does. The text is dropped.
 fn take_start(alloc: Global, text: Vec<u8>) -> Result<(Tree, Vec<u8>, usize), CertFault>
     ensures begun { IfOk result (λ read. BeginsWithTree text.items read.0 read.2 read.1.items) }
     ensures room { IfOk result (λ read. read.2 + length read.1.items + 2 < 2 ^ 64) }

@@ -58,7 +58,8 @@ fn write_section<W: Sink>(
 }
 
 /// Writes the text of the certificate of this tree and of these derivations for its leaves, by rising leaf, one section after the other.
-/// If memory runs out or the sink fails, the sink has taken a prefix of it.
+/// If memory runs out or the sink fails, the sink has taken a prefix of it. The caller gives one derivation for each leaf: of fewer the text
+/// is a certificate too, but `recheck` refuses it as `Missing`.
 pub fn write_cert<W: Sink>(
     alloc: Global,
     tree: &Tree,

@@ -28,7 +28,7 @@ fn has_section(sections: &[Section], leaf: u32) -> bool
     sections.iter().any(|section| section.leaf == leaf)
 }
 
-/// Gives what is wrong with a section after these, if the tree has `count` leaves.
+/// Gives what is wrong with a section after these, if the tree has `count` leaves, whose numbers are those below `count`.
 fn fault_of(before: &[Section], section: &Section, count: u32) -> Option<CertCause>
     ensures { result ≡ section_fault count before.now section.now }
 {
@@ -114,6 +114,7 @@ fn first_refused<L: ClauseList>(
 {
     let mut counts = FormulaCounts::new();
     for leaf in 0..cubes.len() {
+        // Each leaf has a section, as the contract asks, so none is left out here.
         let Some(section) = section_of(sections, leaf as u32) else {
             continue;
         };
@@ -159,6 +160,7 @@ pub fn recheck<L: ClauseList>(
     recall_clauses(certificate.sections.as_slice());
     let count = certificate.tree.leaves();
     let sections = certificate.sections.as_slice();
+    // Once no section is wrong there are at most as many as leaves, which bounds the time of the two searches below.
     if let Some((cause, leaf)) = first_wrong(sections, count) {
         return Err(CertFault::At(cause, leaf as usize));
     }

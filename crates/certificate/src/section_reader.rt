@@ -32,7 +32,8 @@ fn read_steps(alloc: Global, lines: &[u8], before: usize) -> Result<Derivation, 
     }
 }
 
-/// Returns whether no more of the text is left than was read.
+/// Returns whether no more of the text is left than was read. Each copy of a rest then takes at most half the bytes of the text before it, and
+/// all copies together take at most the bytes of the first text.
 fn is_past_half(rest: &[u8], text: &[u8]) -> bool
     ensures { result ≡ nat_le (length rest.now) (length text.now - length rest.now) }
 {
@@ -40,7 +41,7 @@ fn is_past_half(rest: &[u8], text: &[u8]) -> bool
 }
 
 /// The sections of the first half of the text, which stands after `before` lines of the certificate, the rest of the text, and the number
-/// of lines before it.
+/// of lines before it. The section in which the half ends is read whole.
 fn read_half(
     alloc: Global,
     text: &[u8],
@@ -65,6 +66,7 @@ fn read_half(
             return Err(CertFault::At(CertCause::BadLine, number));
         };
         let (inside, from_end, count) = cut_section(after);
+        // The steps are read before the `end` is looked for, since a fault in them stands on an earlier line.
         let derivation = read_steps(alloc, inside, number)?;
         number += count + 1;
         let Some((_, behind)) = cut_line(from_end) else {
@@ -79,7 +81,7 @@ fn read_half(
     Ok((sections, rest, number))
 }
 
-/// The same, of which what was read is dropped.
+/// Reads as `read_half` does, and drops what was read: the rest is a copy.
 fn take_half(
     alloc: Global,
     text: Vec<u8>,

@@ -19,6 +19,7 @@ pub(crate) fn cut_section(text: &[u8]) -> (&[u8], &[u8], usize)
     let mut rest = text;
     while let Some((line, after)) = cut_line(rest) {
         if is_end_line(line) {
+            // `bytes` counts lines that ended with a line feed, so it is within the text. The minimum spares a proof of that.
             return (&text[..text.len().min(bytes)], rest, count);
         }
         bytes += line.len() + 1;

@@ -7,7 +7,7 @@ use dimacs::Clause;
 use std::alloc::{AllocError, Global};
 use var_layout::layout::Layout;
 
-/// Appends the clauses of the pairs of which the trace says that the first stands before the second.
+/// Appends the clauses of the pairs of which the trace says that the first stands before the second: a unit clause for each.
 pub(crate) fn push_before_clauses(
     alloc: Global,
     layout: &Layout,

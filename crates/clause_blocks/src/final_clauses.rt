@@ -27,7 +27,8 @@ fn literals_of(alloc: Global, finals: &[FinalChoice]) -> Result<Vec<Lit>, AllocE
     Ok(literals)
 }
 
-/// Appends what it means that a writer is the last one of these: each other one stands before it.
+/// Appends what it means that a writer is the last one of these: each other one stands before it. So no two can be the last, and no clause
+/// has to say that.
 fn push_writes_last(
     alloc: Global,
     layout: &Layout,
@@ -50,7 +51,8 @@ fn push_writes_last(
     Ok(())
 }
 
-/// Appends the clauses of a final value that some writer leaves or that is there from the start.
+/// Appends the clauses of a final value that some writer leaves or that is there from the start. In the second case nothing writes the
+/// location, and there are none.
 fn push_finals(
     alloc: Global,
     layout: &Layout,

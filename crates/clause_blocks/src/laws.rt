@@ -16,7 +16,8 @@ ghost use Rattle.clause_blocks.specs.Examples.{store_buffering_formula, two_upda
 ghost use Rattle.clause_blocks.specs.Ranks.{AreRanks, count_before};
 ghost use Rattle.var_layout.specs.StoreBuffering.{store_buffering};
 
-/// The formulas of small traces.
+/// The formulas of small traces, which stand in `specs/Examples.antt` with a line about each. In `write_and_read` a read of the initial
+/// value starts at time 3: a write that ends at 2 stands before it, and one that ends at 3 need not.
 pub fn small_traces_have_these_formulas()
     ensures store_buffering { formula_of store_buffering ≡ store_buffering_formula }
     ensures two_updates { formula_of two_updates ≡ two_updates_formula }

@@ -16,8 +16,10 @@ use var_layout::layout::Layout;
 #[derive(Drop)]
 pub(crate) struct LineRun {
     first: usize,
+    /// The operation after the last one of the run.
     end: usize,
     lines: ClauseLines,
+    /// Whether memory sufficed at the last `make`. What a thread runs returns nothing, so its caller asks for this.
     is_whole: bool,
 }
 

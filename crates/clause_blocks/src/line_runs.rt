@@ -21,7 +21,7 @@ use var_layout::layout::Layout;
 /// With as many clauses a run takes no further operation, so that threads are started few times: some 1.5 MB of lines.
 pub(crate) const FULL: usize = 50_000;
 
-/// The end of the run that begins with this operation.
+/// The operation after the last one of the run that begins with this operation. A run has at least one operation, if one is left.
 fn end_of_run(operations: usize, first: usize) -> usize
     requires limit { operations ≤ 160 }
     requires within { first ≤ operations }
@@ -39,7 +39,8 @@ fn end_of_run(operations: usize, first: usize) -> usize
     operations
 }
 
-/// Shares the operations from `first` on among the runs, and returns the first one that is left.
+/// Shares the operations from `first` on among the runs, and returns the first one that is left. Runs that get none become empty, so that
+/// the lines of an earlier round are not sent again.
 fn share_operations(operations: usize, first: usize, runs: &mut [LineRun]) -> usize
     requires limit { operations ≤ 160 }
     requires within { first ≤ operations }
@@ -65,7 +66,7 @@ fn are_whole(runs: &[LineRun]) -> bool
     runs.iter().all(LineRun::is_whole)
 }
 
-/// Makes the lines of all runs, side by side.
+/// Makes the lines of all runs, side by side. If memory runs out in one, the others are made all the same, and nothing of them is sent.
 fn make_runs<R: Threads + Sync>(
     rt: &R,
     layout: &Layout,

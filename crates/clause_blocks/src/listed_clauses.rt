@@ -17,7 +17,8 @@ use crate::triple_table::Triple;
 use dimacs::{Assignment, Clause, ClauseList, FirstFalse, ListedClause, first_false};
 use var_layout::layout::Layout;
 
-/// The clause of transitivity that a triple stands for.
+/// The clause of transitivity that a triple stands for: the first says that the lowest stands before the highest if it stands before the
+/// middle one and that before the highest; the second says the same with all three orders turned round.
 fn cycle_clause<'a>(layout: &Layout, triple: Triple) -> ListedClause<'a>
     requires first { triple.lowest < triple.middle }
     requires second { triple.middle < triple.highest }
@@ -34,7 +35,7 @@ fn cycle_clause<'a>(layout: &Layout, triple: Triple) -> ListedClause<'a>
     }
 }
 
-/// Checks whether the assignment makes these clauses true. If not, the first one that it makes false.
+/// Checks whether the assignment makes these clauses true. If not, the error is the first one that it makes false, counted from 1.
 fn eval_stored(stored: &[Clause], assignment: &Assignment) -> Result<(), FirstFalse>
     ensures model { OnOk result (IsModel (value_of assignment.now) stored.now) }
     ensures first { IfErr result (λ found. IsFirstFalse (value_of assignment.now) stored.now found.clause) }

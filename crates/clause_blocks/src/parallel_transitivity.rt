@@ -38,7 +38,7 @@ impl TripleClauses {
 }
 
 /// The clauses of all operations i < j < k for this i, by j and then by k. The index j * n + k stands for the two, so that `rayon` keeps
-/// this order. The result does not depend on the number of threads.
+/// this order; indices whose j and k do not satisfy i < j < k are left out. The result does not depend on the number of threads.
 fn cycles_from<R: Threads + Sync>(
     alloc: Global,
     rt: &R,

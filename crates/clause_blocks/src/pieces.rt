@@ -123,7 +123,7 @@ impl Pieces {
         self.layout().operations() + 2
     }
 
-    /// The number of pieces.
+    /// The number of pieces: those of program order, reads, final values and the trace's own order, and one of transitivity for each operation.
     pub(crate) fn count(&self) -> usize
         ensures { result ≡ length (list.pieces self.now) }
     {
@@ -131,7 +131,8 @@ impl Pieces {
         self.layout().operations() + 4
     }
 
-    /// The piece under this number, counted from 0.
+    /// The piece under this number, counted from 0: program order, then transitivity from the operation k - 1 for each k up to the number of
+    /// operations, then reads, final values and the trace's own order.
     pub(crate) fn piece(&self, k: usize) -> Piece<'_>
         requires { k < length (list.pieces self.now) }
         ensures { clauses_in (operation_count self.now) result ≡ slice_index_or (list.pieces self.now) k [] }

@@ -7,7 +7,8 @@ use dimacs::Clause;
 use std::alloc::{AllocError, Global};
 use var_layout::layout::Layout;
 
-/// Appends the clauses of program order.
+/// Appends the clauses of program order, of direct neighbours alone: transitivity gives the other pairs. Operations are numbered process by
+/// process, so the next one of the process, if there is one, is i + 1.
 pub(crate) fn push_program_order(
     alloc: Global,
     layout: &Layout,

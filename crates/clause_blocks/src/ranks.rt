@@ -12,7 +12,7 @@ use dimacs::Assignment;
 use var_layout::layout::{Layout, MAX_LAYOUT_OPERATIONS};
 
 /// The number of operations before each one, as the assignment says. Wrong ranks would cost time and no more, since each
-/// pair is compared with them.
+/// pair is compared with them. A rank is at most 159, so no sum wraps.
 fn ranks(layout: &Layout, assignment: &Assignment) -> [u8; MAX_LAYOUT_OPERATIONS] {
     layout.recall_limits();
     let mut ranks = [0u8; MAX_LAYOUT_OPERATIONS];

@@ -59,7 +59,8 @@ fn push_reads_initial(
 }
 
 /// Appends what it means that an operation reads from a writer: the writer stands before it, and each other writer
-/// before the writer or after the operation.
+/// before the writer or after the operation. The list `after` has the literals of the operation's other writers in the same order
+/// (`others_after`).
 fn push_reads_writer(
     alloc: Global,
     layout: &Layout,
@@ -110,7 +111,8 @@ fn push_reads_from(
     }
 }
 
-/// Appends the clauses of a reading operation that has a candidate.
+/// Appends the clauses of a reading operation that has a candidate: one is chosen, and what each choice means. That no two are chosen needs
+/// no clause of its own, since what two choices mean contradicts.
 fn push_choices(
     alloc: Global,
     layout: &Layout,

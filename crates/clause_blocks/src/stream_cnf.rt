@@ -85,7 +85,7 @@ fn put_pieces_in_threads<R: Threads + Sync, W: Sink>(
     Ok(())
 }
 
-/// Writes all pieces, one after the other. Threads are only worth it for many clauses.
+/// Writes all pieces, one after the other. Threads are only worth it for many clauses, more than one run takes; the text is the same.
 fn put_all_pieces<R: Threads + Sync, W: Sink>(
     alloc: Global,
     rt: &R,
@@ -108,7 +108,7 @@ fn put_all_pieces<R: Threads + Sync, W: Sink>(
     Ok(())
 }
 
-/// Writes the text of a trace's formula.
+/// Writes the text of a trace's formula. Its header announces both counts, so they are known before the first clause is written.
 fn put_formula<R: Threads + Sync, W: Sink>(
     alloc: Global,
     rt: &R,

@@ -4,7 +4,7 @@ ghost use Rattle.std.specs.Prelude.{◌<◌, ◌≤◌, ◌+◌, length, slice_i
 
 use std::alloc::{AllocError, Global};
 
-/// How many numbers share a landmark.
+/// How many neighbouring numbers share a landmark. The value bears on time and memory alone.
 const APART: u32 = 128;
 
 /// An entry, of those between these two, that the number reaches while it does not reach the next one.
@@ -34,6 +34,7 @@ pub(crate) fn reached(table: &[u32], first: usize, last: usize, number: u32) -> 
 /// landmarks: a search looks whether the number is between two of them.
 #[derive(Drop)]
 pub(crate) struct Landmarks {
+    /// For the numbers from 128 k on, in row k, a place of the table. The next row, plus 1, bounds the search from above.
     entries: Vec<u16>,
 }
 
@@ -42,6 +43,7 @@ impl Landmarks {
     pub(crate) fn of(alloc: Global, table: &[u32]) -> Result<Landmarks, AllocError> {
         let mut entries = Vec::new(alloc);
         for next in 1..table.len() {
+            // A place too large for 16 bits becomes 0, a wrong landmark: `reached` finds that out, and searches the whole table.
             let entry = u16::try_from(next - 1).unwrap_or(0);
             for _ in entries.len()..(table[next] / APART) as usize + 1 {
                 entries.push(entry)?;

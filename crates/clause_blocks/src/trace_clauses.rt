@@ -19,7 +19,9 @@ use var_layout::layout::Layout;
 /// the others are stored.
 pub struct TraceClauses {
     pieces: Pieces,
+    /// The number of clauses before each piece, and of all after the last one: one entry more than pieces.
     starts: Vec<u32>,
+    /// The landmarks of `starts`, by which the piece of a clause is found.
     near: Landmarks,
     triples: TripleTable,
 }
@@ -167,7 +169,7 @@ impl TraceClauses {
         self.start(self.pieces.piece_of_final_values())
     }
 
-    /// The number of the piece in which the clause at this place stands.
+    /// The number of the piece in which the clause at this place, from 0, stands. It is never an empty piece.
     pub(crate) fn piece_at(&self, place: usize) -> usize
         requires { place < length (list.clauses_of self.now) }
         ensures within { result < length (list.pieces self.now) }

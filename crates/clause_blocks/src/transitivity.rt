@@ -13,7 +13,8 @@ use dimacs::{Clause, CnfWriter, Failed, Lit, Sink};
 use std::alloc::{AllocError, Global};
 use var_layout::layout::Layout;
 
-/// Appends the two clauses of three operations i, j and k, by the literals of their pairs.
+/// Appends the two clauses of three operations i, j and k, by the literals of their pairs: i before j and j before k give i before k, and
+/// the same with the three orders turned round. These are the only two ways in which three can stand in a cycle.
 fn push_no_cycle(
     alloc: Global,
     ij: Lit,
@@ -122,7 +123,7 @@ pub(crate) fn put_transitivity_from<W: Sink>(
     Ok(())
 }
 
-/// The number of clauses of three operations of which this one is the lowest.
+/// The number of clauses of three operations of which this one is the lowest: two for each pair of the `above` operations that are higher.
 pub(crate) fn count_transitivity_from(operations: usize, i: usize) -> usize
     requires { operations ≤ 160 }
     ensures { result ≡ length (blocks.transitivity_from operations i) }

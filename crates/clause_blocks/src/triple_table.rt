@@ -22,6 +22,8 @@ pub(crate) struct Triple {
 #[derive(Drop)]
 pub(crate) struct TripleTable {
     operations: usize,
+    /// In row j the sum, over all operations below j, of two clauses for each operation above them. With one lowest operation, each middle one
+    /// has just these clauses, whichever the lowest is: one table serves all.
     middle: Vec<u32>,
     near: Landmarks,
 }
@@ -78,6 +80,7 @@ impl TripleTable {
         ensures clause { slice_index_or (transitivity_from self.now i) place [] ≡ clause_of_triple self.now result }
     {
         let middle = self.middle.as_slice();
+        // Middle operations begin at i + 1, so the clauses of those up to i are added to the place before the search.
         let row = place as u32 + middle[i + 1];
         let j = self.near.reached(middle, i + 1, self.operations, row);
         let left = row - middle[j];

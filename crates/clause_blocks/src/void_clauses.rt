@@ -7,7 +7,8 @@ ghost use Rattle.clause_blocks.specs.Ranges.{FitsFormula};
 use dimacs::{Clause, Lit};
 use std::alloc::{AllocError, Global};
 
-/// Appends the two clauses of a void variable, which no assignment makes true.
+/// Appends the two clauses of a void variable, of which each assignment makes one false: the formula of a trace whose reading operation
+/// has no candidate, or whose final value nothing leaves, has no model.
 pub(crate) fn push_void(
     alloc: Global,
     variable: u32,

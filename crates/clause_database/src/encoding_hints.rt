@@ -16,7 +16,9 @@ use total_tables::size;
 /// checks the derivation, and no contract rests on the hints.
 #[derive(Clone, Copy)]
 pub struct EncodingHints<'a> {
+    /// The number of elements of the order; 0 if there are no hints.
     elements: u32,
+    /// The id of the first transitivity clause, counted from 1. Without hints it is 1: the loader then passes over no clause.
     first: u32,
     reads_from: Option<&'a ReadsFromTable>,
 }
@@ -80,7 +82,7 @@ impl<'a> EncodingHints<'a> {
         self.reads_from
     }
 
-    /// Returns the reads-from variables by number, with gaps.
+    /// Returns the reads-from variables by number, with gaps. The first entry is for the variable behind those of the order.
     pub fn choices(self) -> &'a [Option<ReadsFromVariable>] {
         match self.reads_from {
             Some(reads_from) => reads_from.choices(),

@@ -45,19 +45,20 @@ pub struct LastWriter {
 ///
 /// Untrusted too: an error here can only slow the search down (see `EncodingHints`).
 pub struct ReadsFromTable {
+    /// The number of elements, which are counted from 0, at most 192 of them.
     elements: u32,
     /// The last variable of the order.
     base: u32,
     /// For each element those others that write its location.
     writers: ElementSets,
-    /// The choices by their variables, counted from the first one after the order's.
+    /// The choices by their variables: at place 0 that of the variable behind `base`.
     choices: Vec<Option<ReadsFromVariable>>,
     /// 1 for each element that has a choice.
     reading: Vec<u8>,
     /// 1 for each element that writes a location of others.
     writing: Vec<u8>,
     /// For each reader and each writer the variable of the choice, or 0; after the writers the one of the choice without a
-    /// writer.
+    /// writer. So a reader has one entry more than there are elements.
     variables: Vec<u32>,
     /// The last writers, those of one location one after the other.
     last_writers: Vec<LastWriter>,
@@ -108,6 +109,7 @@ impl ReadsFromTable {
     /// Adds a choice. They are added by rising variables; others, and those that are not of two elements of the order, are left to their
     /// clauses.
     pub fn add_choice(&mut self, choice: ReadsFromVariable) -> Result<(), AllocError> {
+        // For a variable of the order this wraps to a place that is too large.
         let place = choice.variable.wrapping_sub(self.base).wrapping_sub(1);
         let column = choice.writer.unwrap_or(self.elements);
         if place >= MAX_VARIABLES
@@ -134,7 +136,7 @@ impl ReadsFromTable {
         Ok(())
     }
 
-    /// Returns the place of the choice of this reader and this writer.
+    /// Returns the place of the choice of this reader in `variables`. The column is its writer, or the number of elements without one.
     #[inline(always)]
     fn place_of(&self, reader: u32, column: u32) -> u32 {
         reader
@@ -157,7 +159,7 @@ impl ReadsFromTable {
         self.last_writers.as_slice()
     }
 
-    /// Returns the place of the writer among those of its location, counted from 0.
+    /// Returns the place of the writer among those of its location, counted from 0. Its own set has the others, so those below it are counted.
     pub fn place_of_writer(&self, writer: u32) -> u32 {
         self.writers.count_below(writer, writer)
     }
@@ -196,6 +198,7 @@ impl ReadsFromTable {
     /// Returns the event that represents the location of this one: the first of its writers. So locations need no numbers of their own, which
     /// a caller would have to give.
     pub fn location(&self, element: u32) -> u32 {
+        // It is 192 if no other event writes the location, which the event then represents itself.
         let first = self.writers.first(element);
         if self.writes(element) || first >= self.elements {
             element.min(first)
@@ -222,6 +225,7 @@ impl ReadsFromTable {
             Some(chosen) if chosen == writer => 0,
             // The clause of the chosen writer stands before those of all others.
             Some(chosen) if writer < chosen => place.wrapping_add(1),
+            // For those behind the chosen one the place counts it already.
             Some(_) => place,
         };
         choice.first.wrapping_add(place)

@@ -1,4 +1,6 @@
 //! Reasons of literals, in a few words each: every literal that becomes true writes one, and only those of a conflict are read.
+//!
+//! A literal is given by its code: twice its variable, plus one if it is negative. So `^ 1` negates it, and `>> 1` gives its variable.
 
 use proof_log::codes::NEVER;
 use total_tables::at;
@@ -7,9 +9,10 @@ use total_tables::at;
 #[derive(Clone, Copy)]
 pub enum Reason {
     Decision,
-    /// A clause of at most three literals, of which these were false. It is stored inline, so that analysis reads no clause memory.
+    /// A clause of at most three literals, of which these were false, and `NEVER` fills up. It is stored inline, so that analysis reads no clause
+    /// memory. A unit clause has `NEVER` twice.
     Clause { id: u32, first: u32, second: u32 },
-    /// The clause at this offset of the arena.
+    /// The clause at this offset of the arena, which is that of its header.
     Stored { place: u32 },
     /// Transitivity of the order, via this event: one number, from which the clause and its id are computed.
     Transitive { element: u32 },
@@ -18,13 +21,14 @@ pub enum Reason {
 }
 
 /// A reason clause with its id, to be iterated over: in the arena, or inline with at most three literals. It is a value and no slice, since
-/// a borrowed clause would lend the store while analysis changes marks and activities.
+/// a borrowed clause would lend the store while analysis changes marks and activities. Some have the literal that they imply, and some only
+/// the false ones: who reads them has marked its variable before, and passes over it.
 #[derive(Clone, Copy)]
 pub struct ReasonClause {
     pub id: u32,
     /// Number of its literals.
     pub count: u32,
-    /// Offset of its literals in the arena, or 0.
+    /// Offset of its literals in the arena, `HEADER` words behind that of the clause, or 0 if they are inline.
     pub place: u32,
     first: u32,
     second: u32,
@@ -65,7 +69,7 @@ impl ReasonClause {
         }
     }
 
-    /// Returns its literal of this number, counted from 0.
+    /// Returns its literal of this number, counted from 0. `store` has the words of the arena.
     #[inline(always)]
     pub fn literal(&self, store: &[u32], number: u32) -> u32 {
         if self.place != 0 {

@@ -1,4 +1,6 @@
 //! Occurrence lists of the clauses of two and three literals.
+//!
+//! A literal is given by its code: twice its variable, plus one if it is negative. So `^ 1` negates it, and `>> 1` gives its variable.
 
 use proof_log::codes::NEVER;
 use std::alloc::{AllocError, Global};
@@ -94,6 +96,7 @@ impl SmallClauses {
     }
 
     /// Enters a clause under one of its literals.
+    /// The entry behind the literal's is the next free place of its part: when all are entered, it is where the next part begins.
     fn enter(&mut self, literal: u32, first: u32, second: u32, id: u32) {
         let start = literal.wrapping_add(1);
         let place = at(self.starts.as_slice(), start, 0);

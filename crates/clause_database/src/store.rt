@@ -17,6 +17,7 @@ pub const DROPPED: u32 = 0xffff_ffff;
 /// Clauses one after the other in one vector. A clause is named by the offset of its header. No clause is at offset 0, which stands for none.
 #[derive(Drop)]
 pub struct Store {
+    /// The first word is none of a clause, so that the first clause is at offset 1.
     words: Vec<u32>,
 }
 
@@ -52,6 +53,7 @@ impl Store {
         size(self.words.as_slice())
     }
 
+    /// Adds the clause behind the others, so its offset is what `end` was. `used` is the conflict that counts as its last use.
     pub fn add(
         &mut self,
         literals: &[u32],
@@ -115,6 +117,7 @@ impl Store {
         let mut clause: u32 = 1;
         for _ in 0..self.words.len() {
             let behind = self.next_clause(clause);
+            // A count that makes the offset wrap would lead back.
             if clause >= self.end() || behind <= clause {
                 break;
             }

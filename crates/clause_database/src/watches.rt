@@ -1,4 +1,6 @@
 //! Watch lists: which clauses are visited when a literal is falsified.
+//!
+//! A literal is given by its code: twice its variable, plus one if it is negative. So `^ 1` negates it, and `>> 1` gives its variable.
 
 use crate::store::Store;
 use std::alloc::{AllocError, Global};
@@ -9,6 +11,7 @@ use total_tables::{at, put, size};
 /// loads of clause memory (Chu, Harwood and Stuckey, 2009).
 #[derive(Clone, Copy)]
 pub struct Watch {
+    /// The offset of the clause in the arena.
     pub clause: u32,
     pub blocker: u32,
 }
@@ -23,6 +26,7 @@ pub struct Watches {
     lists: Vec<Vec<Watch>>,
 }
 
+/// Returns the watch at this place of the list, or one of no clause past its end.
 #[inline(always)]
 pub fn watch_at(list: &[Watch], place: u32) -> Watch {
     let nothing = Watch {
@@ -57,14 +61,16 @@ impl Watches {
         })
     }
 
-    /// Returns the place of the literal's list, or one past the last list.
+    /// Returns the place of the literal's list, or a place past all lists.
     #[inline(always)]
     fn place(&self, literal: u32) -> usize {
         at(self.places.as_slice(), literal, 0).wrapping_sub(1) as usize
     }
 
+    /// Adds the watch to the list of the literal, which is made if there is none.
     #[inline(always)]
     pub fn add(&mut self, literal: u32, watch: Watch) -> Result<(), AllocError> {
+        // A literal past the table counts as one that has a list, and that list is not found: nothing is added.
         if at(self.places.as_slice(), literal, 1) == 0 {
             self.lists.push(Vec::new(self.alloc))?;
             let place = size(self.lists.as_slice());
@@ -97,7 +103,8 @@ impl Watches {
         )
     }
 
-    /// Takes the watch list of the literal out, so that other lists can grow while it is iterated over.
+    /// Takes the watch list of the literal out, so that other lists can grow while it is iterated over. Until `give_back` none may be added to its own:
+    /// that would be lost. Propagation adds none, since the literal is false and a clause goes over to one that is not.
     #[inline(always)]
     pub fn take(&mut self, literal: u32) -> Vec<Watch> {
         let place = self.place(literal);
@@ -108,6 +115,7 @@ impl Watches {
         }
     }
 
+    /// Puts a list that was taken in its place again. What stands there now is dropped.
     #[inline(always)]
     pub fn give_back(&mut self, literal: u32, list: Vec<Watch>) {
         let place = self.place(literal);

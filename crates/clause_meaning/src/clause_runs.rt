@@ -21,7 +21,9 @@ use var_layout::layout::Layout;
 #[derive(Drop)]
 pub struct ClauseRuns<'a> {
     layout: &'a Layout,
+    /// In the order of the clause list. A run may be empty.
     runs: Vec<ClauseRun>,
+    /// The number of clauses before each run, and of all after the last one: one entry more than runs.
     starts: Vec<u32>,
 }
 

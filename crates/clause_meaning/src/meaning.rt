@@ -1,11 +1,12 @@
 //! What one clause says.
 
-/// What a clause says, of operations by their numbers and of final values by their places.
+/// What a clause says, of operations by their numbers and of final values by their places in the trace's list, both from 0.
 #[derive(Clone, Copy)]
 pub enum ClauseMeaning {
     /// The operation stands before the next one of its process.
     ProgramOrder(usize),
-    /// The order of three operations has no cycle: the first of their two clauses, or the second.
+    /// The order of three operations has no cycle. The first of their two clauses: if the lowest stands before the middle one, and that before
+    /// the highest, the lowest stands before the highest. The second: the same with all three orders turned round.
     NoCycle {
         lowest: usize,
         middle: usize,
@@ -14,7 +15,8 @@ pub enum ClauseMeaning {
     },
     /// The operation reads from somewhere.
     HasSource(usize),
-    /// The operation has nothing to read from: the first of two clauses that contradict each other, or the second.
+    /// The operation has nothing to read from: the first of two clauses that contradict each other, or the second. The first is the void
+    /// variable, the second its negation.
     NoSource {
         reader: usize,
         variable: u32,
@@ -41,7 +43,7 @@ pub enum ClauseMeaning {
     },
     /// One of the writers leaves the final value.
     HasLast(usize),
-    /// Nothing leaves the final value: the first of two clauses that contradict each other, or the second.
+    /// Nothing leaves the final value: the first of two clauses that contradict each other, or the second, as for `NoSource`.
     NoLast {
         final_value: usize,
         variable: u32,

@@ -1,11 +1,11 @@
 //! Runs of the clause list: neighbouring clauses of one kind.
 
-/// The clauses of a run.
+/// The clauses of a run, of operations by their numbers and of final values by their places in the trace's list, both from 0.
 #[derive(Clone, Copy)]
 pub enum ClauseRun {
     /// The one clause that the operation stands before the next one of its process.
     ProgramOrder(usize),
-    /// Those of three operations of which this one is the lowest.
+    /// Those of three operations of which this one is the lowest. There are none for the last two operations.
     TriplesFrom(usize),
     /// The one clause that the operation reads from somewhere.
     HasSource(usize),
@@ -38,6 +38,7 @@ pub enum ClauseRun {
         variable: u32,
         last: usize,
     },
-    /// One for each pair of operations of which the trace says that the first stands before the second.
+    /// One for each pair of operations of which the trace says that the first stands before the second, in the order of `Layout::before`. Each list
+    /// ends with this run, which may be empty.
     BeforePairs,
 }

@@ -36,7 +36,7 @@ pub(crate) fn writers_of_final(layout: &Layout, k: usize) -> &[usize]
     }
 }
 
-/// The number of clauses of a run.
+/// The number of clauses of a run. It must agree with what `clause_blocks` makes: each later run would be found at a wrong place.
 pub(crate) fn length_of(layout: &Layout, run: ClauseRun) -> usize
     ensures { result ≡ length (meanings_of_run layout.now run) }
 {

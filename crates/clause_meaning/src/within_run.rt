@@ -10,7 +10,7 @@ use crate::run::ClauseRun;
 use crate::run_length::writers_of_final;
 use var_layout::layout::Layout;
 
-/// The one at this place of those of the writers that are not this one.
+/// The one at this place, counted from 0, of those of the writers that are not this one.
 fn other_at(writer: usize, writers: &[usize], place: usize) -> Option<usize>
     ensures { result ≡ slice_get (numbers.others writer writers.now) place }
 {
@@ -26,7 +26,8 @@ fn other_at(writer: usize, writers: &[usize], place: usize) -> Option<usize>
     None
 }
 
-/// The meaning of the clause at this place, of those of n operations of which i is the lowest of three.
+/// The meaning of the clause at this place, counted from 0, of those of n operations of which i is the lowest of three. They stand by rising
+/// middle and then highest operation, two for each, so a middle operation j has two for each of the n - j - 1 above it.
 fn triple_at(n: usize, i: usize, place: usize) -> Option<ClauseMeaning>
     requires { n ≤ 160 }
     ensures { result ≡ slice_get (triples_from n i) place }
@@ -50,7 +51,8 @@ fn triple_at(n: usize, i: usize, place: usize) -> Option<ClauseMeaning>
     None
 }
 
-/// The meaning of the clause at this place, of those of a reader that reads from the source.
+/// The meaning of the clause at this place, of those of a reader that reads from the source: first that it stands after the source, and then
+/// one clause for each other writer.
 fn of_source(
     layout: &Layout,
     reader: usize,
@@ -167,7 +169,7 @@ fn of_no_last(final_value: usize, variable: u32, place: usize) -> Option<ClauseM
     of_two(first, second, place)
 }
 
-/// The meaning of the clause at this place of the run, or none past its end.
+/// The meaning of the clause at this place of the run, counted from 0, or none past its end.
 pub(crate) fn meaning_in(layout: &Layout, run: ClauseRun, place: usize) -> Option<ClauseMeaning>
     ensures { result ≡ slice_get (meanings_of_run layout.now run) place }
 {

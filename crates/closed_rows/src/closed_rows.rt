@@ -9,6 +9,7 @@ use total_tables::{at, put, size};
 struct RowChange {
     index: u32,
     old: ProcessPlace,
+    /// Whether the entry is of what stands after, and else of what stands before.
     is_after: bool,
 }
 
@@ -35,6 +36,7 @@ const NO_BOUND: RowEntry = RowEntry {
 /// that stands before it. As a process is a chain, these say of each two operations whether one stands before the other, in tables of
 /// operations times processes, where a bit for each two operations would grow with the square of a log.
 pub struct ClosedRows {
+    /// The number of processes, which is that of the entries of a row.
     width: u32,
     /// The place after the last where nothing stands after the operation.
     after: Vec<ProcessPlace>,
@@ -90,6 +92,7 @@ impl ClosedRows {
         Ok(rows)
     }
 
+    /// Sets the rows of the operation to those of program order. Its row of what stands before it has `START` elsewhere from the beginning.
     fn set_program_order(&mut self, log: &NumberedLog, number: OperationId) {
         let operation = log.operation(number);
         for process in self.process_ids() {
@@ -116,6 +119,7 @@ impl ClosedRows {
         self.width
     }
 
+    /// The index of the entry in the table of its kind: rows stand one after the other, by the numbers of operations.
     #[inline(always)]
     fn index(&self, number: OperationId, process: ProcessId) -> u32 {
         number
@@ -144,7 +148,7 @@ impl ClosedRows {
         )
     }
 
-    /// Returns whether the first operation stands before the second.
+    /// Returns whether the first operation stands before the second. `NOBODY` has no row, and is said to stand before all: callers leave it out.
     #[inline(always)]
     pub fn stands_before(
         &self,
@@ -157,7 +161,8 @@ impl ClosedRows {
     }
 
     /// Notes what the new pair says: the places that are news for the rows of its two operations. Of other rows only these entries can
-    /// change, as rows are closed.
+    /// change, as rows are closed. The first operation must not stand before the second yet, so both are news. Entries of an operation's own process
+    /// are those of program order, and never change.
     pub fn begin_pair(
         &mut self,
         log: &NumberedLog,
@@ -247,7 +252,7 @@ impl ClosedRows {
         Ok(())
     }
 
-    /// Sets the row of what stands before the operation to that of the one before it in its process.
+    /// Sets the row of what stands before the operation to that of the one before it in its process, which must have been made already.
     pub fn begin_before(&mut self, log: &NumberedLog, number: OperationId) {
         let operation = log.operation(number);
         for process in self.process_ids() {
@@ -277,7 +282,7 @@ impl ClosedRows {
         }
     }
 
-    /// Sets the row of what stands after the operation to that of the one behind it in its process.
+    /// Sets the row of what stands after the operation to that of the one behind it in its process, which must have been made already.
     pub fn begin_after(&mut self, log: &NumberedLog, number: OperationId) {
         let operation = log.operation(number);
         let is_last = operation.place >= log.last_place(operation.process);
@@ -308,7 +313,7 @@ impl ClosedRows {
         }
     }
 
-    /// Returns whether there is no room for a further change.
+    /// Returns whether there is no room for a further change. It is asked between two pairs only, so the changes of one pair may go past the room.
     #[inline(always)]
     pub fn is_full(&self) -> bool {
         self.changes.len() >= self.most_changes

@@ -35,7 +35,7 @@ pub struct OrderedPair {
     pub time: Time,
     /// The number of decisions that stood when it was added.
     pub level: u32,
-    /// The pair before this one with the same first operation: when this one is taken back, it is the last again.
+    /// The number of the pair before this one with the same first operation, or `NO_NUMBER`: when this one is taken back, it is the last again.
     pub previous: u32,
 }
 
@@ -53,7 +53,7 @@ pub const NO_PAIR: OrderedPair = OrderedPair {
 #[derive(Drop)]
 pub struct OrderedPairs {
     pairs: Vec<OrderedPair>,
-    /// For each operation its last pair as the first.
+    /// For each operation the number of the last pair of which it is the first, or `NO_NUMBER`.
     heads: Vec<u32>,
     /// The most pairs.
     most: u32,
@@ -75,7 +75,7 @@ impl OrderedPairs {
         })
     }
 
-    /// Adds the pair.
+    /// Adds the pair at this time, when this number of decisions stands.
     pub fn add(
         &mut self,
         first: OperationId,

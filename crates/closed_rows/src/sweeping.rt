@@ -71,6 +71,7 @@ impl Sweep {
         )
     }
 
+    /// Returns whether the operation was passed. Those of a process are passed in their order, so its front says that.
     #[inline(always)]
     fn has_passed(&self, log: &NumberedLog, number: OperationId) -> bool {
         let operation = log.operation(number);
@@ -141,7 +142,7 @@ impl Sweep {
         Ok(passes)
     }
 
-    /// Passes all operations, unless there is a cycle.
+    /// Passes all operations, unless there is a cycle. Each turn passes one at least, so there are no more turns than operations.
     fn pass_all(
         &mut self,
         log: &NumberedLog,

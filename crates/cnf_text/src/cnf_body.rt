@@ -34,7 +34,7 @@ impl Body {
         }
     }
 
-    /// Ends the clause that was begun.
+    /// Ends the clause that was begun. If no literal was begun, that is the empty clause.
     fn end_clause(&mut self, alloc: Global) -> Result<(), CnfFault>
         ensures clauses { OnOk result (self.new.clauses.items ≡ self.old.clauses.items ++ self.old.begun.items ∷ []) }
         ensures begun { OnOk result (self.new.begun.items ≡ []) }
@@ -58,6 +58,7 @@ impl Body {
         ensures taken { OnOk result (TakesWord (record { variables = counts.variables; clauses = counts.clauses }) word.now self.old.clauses.items self.old.begun.items self.new.clauses.items self.new.begun.items) }
         ensures refused { IfErr result (λ fault. IsWordRefusal (record { variables = counts.variables; clauses = counts.clauses }) (length self.old.clauses.items) number word.now fault) }
     {
+        // first, since any word after the last clause is `Trailing`, also one that is no number
         if self.clauses.len() >= counts.clauses as usize {
             return Err(PlacedFault::At(CnfCause::Trailing, number));
         }

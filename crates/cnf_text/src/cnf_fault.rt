@@ -33,6 +33,7 @@ impl FaultCause for CnfCause {
 
     fn number(&self) -> u8 {
         match self {
+            // 1 says that memory ran out, for faults of all kinds
             CnfCause::NoHeader => 2,
             CnfCause::BadHeader => 3,
             CnfCause::BadNumber => 4,

@@ -36,7 +36,7 @@ fn read_counts(variables: &[u8], clauses: &[u8]) -> Option<Counts>
     })
 }
 
-/// The counts that the header announces, if the line is a header whose first word is `p`.
+/// The counts that the header announces, if the line is a header whose first word is `p`. A fifth word makes it no header.
 fn read_header_line(line: &[u8]) -> Option<Counts>
     ensures { MatchOption result (header_of (words_of line.now) ≡ None)
         (λ counts. (header_of (words_of line.now) ≡ Some (record { variables = counts.variables; clauses = counts.clauses })) × (counts.variables ≤ MAX_VARIABLE)) }

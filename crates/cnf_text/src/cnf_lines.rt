@@ -14,7 +14,7 @@ use text_lines::words::cut_word;
 pub(crate) struct ContentLine<'a> {
     /// Its bytes.
     pub line: &'a [u8],
-    /// Its number.
+    /// Its number. Lines are counted from 1, with those that are skipped.
     pub number: usize,
     /// The text after it.
     pub rest: &'a [u8],

@@ -33,6 +33,7 @@ pub(crate) fn read_literal(word: &[u8], variables: u32) -> Result<Option<Lit>, C
     let Some(number) = read_solver_number(word) else {
         return Err(CnfCause::BadNumber);
     };
+    // no magnitude: it is 2^64 or more
     let Some(variable) = number.magnitude else {
         return Err(CnfCause::VariableTooLarge);
     };

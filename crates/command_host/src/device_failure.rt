@@ -22,6 +22,7 @@ pub enum DeviceCall {
 #[derive(Clone, Copy)]
 pub struct DeviceFailure {
     pub call: DeviceCall,
+    /// The error number of the system.
     pub code: Option<i32>,
 }
 
@@ -49,7 +50,8 @@ impl DeviceFailure {
         }
     }
 
-    /// Gives what failed after these words, and why, as the system says it.
+    /// Gives what failed after these words, and why, as the system says it. The words are the name of what failed with a blank or `: ` at their end,
+    /// or empty if the caller adds the name.
     pub fn told(&self, alloc: Global, front: &str) -> Result<String, AllocError> {
         let says = self.says();
         match self.code {

@@ -32,8 +32,11 @@ impl KeptText {
 #[derive(Drop)]
 struct Copied {
     bytes: Vec<u8>,
+    /// Whether further bytes are added. Once false, it stays so, and `bytes` is a front that is not handed out.
     is_kept: bool,
+    /// Whether memory ran out. A text that is too long is not lost: the engine refuses it by itself.
     is_lost: bool,
+    /// Whether the source has handed out no byte once, which is how it says its end. A front alone is never given.
     is_ended: bool,
 }
 

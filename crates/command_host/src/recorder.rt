@@ -17,8 +17,11 @@ pub trait Recalls: TellsFailure {
 /// The bytes that a sink took: how many they are, and they themselves if they are few.
 #[derive(Drop)]
 struct Record {
+    /// The bytes that were kept. They are all of them exactly if they are as many as were taken.
     kept: Vec<u8>,
+    /// The most bytes that are kept, and 0 for a record that counts alone.
     most: usize,
+    /// How many bytes were taken, kept or not.
     taken: u64,
 }
 
@@ -36,6 +39,7 @@ impl Record {
     fn add(&mut self, bytes: &[u8]) {
         self.taken = self.taken.saturating_add(bytes.len() as u64);
         if self.taken <= self.most as u64 {
+            // Without memory `kept` stays shorter than `taken` from now on, which `whole` sees.
             let _ = self.kept.extend_from_slice(bytes);
         }
     }

@@ -9,6 +9,6 @@ pub struct SearchRequest {
     pub options: Options,
     /// Whether its progress is reported on standard error.
     pub tells_progress: bool,
-    /// The number of steps after which the survey before it is given up, if there is one.
+    /// The number of steps after which the survey before it is given up: that of `survey`, and nothing for `verify`, which has no survey.
     pub steps: Option<u64>,
 }

@@ -23,7 +23,7 @@ pub fn with_two<'a>(
     command.arg(first)?.arg(second)
 }
 
-/// A command of this name with two arguments.
+/// A command of this name with two arguments. `example` is the text behind the list of options in its help.
 pub fn command_of_two<'a>(
     alloc: Global,
     name: &'a str,

@@ -200,6 +200,7 @@ fn asked_line<'a>(alloc: Global, words: &'a [&'a str]) -> Result<CommandLine<'a>
     if let Some(batch) = matches.subcommand_matches("batch") {
         return batch_line(alloc, batch);
     }
+    // `new_program` requires a command, and has no other ones than these. One that is added there needs a branch here.
     unreachable!()
 }
 

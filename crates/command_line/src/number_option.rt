@@ -51,6 +51,7 @@ impl NumberOption {
         }
     }
 
+    // Returns whether the value is a number of the range.
     fn takes(self, value: &str) -> bool {
         let (least, most) = self.range();
         match value.parse::<u64>() {
@@ -82,7 +83,7 @@ pub fn missed_number(words: &[&str], kind: ErrorKind) -> Option<NumberOption> {
     }
 }
 
-// The first one whose value begins so. The first two words are the program and the command.
+// The first one whose value begins so. The first two words are the program and the command. After `--` there are no options.
 fn first_missed(words: &[&str], begin: &str) -> Option<NumberOption> {
     let command: &str = words.get(1)?;
     for at in 2..words.len() {

@@ -111,7 +111,8 @@ pub fn workers_of(matches: &ArgMatches<'_>) -> u32
     matches.get_one::<u32>("workers").unwrap()
 }
 
-/// The depth of the first split that was given, or else the one that stands for it.
+/// The depth of the first split that was given, or else the one that stands for it. Its text is read as a number once more; `clap` has taken it,
+/// so it is one of the range, and the cast keeps it.
 pub fn split_of(matches: &ArgMatches<'_>) -> u32
     requires { HasNumber (codes "split") 0 10 (found_of matches.now) }
     ensures { IsSomeAnd (first_value (found_of matches.now) (codes "split"))
@@ -120,7 +121,7 @@ pub fn split_of(matches: &ArgMatches<'_>) -> u32
     matches.get_one::<u64>("split").unwrap() as u32
 }
 
-/// The budget that was given, or else the one that stands for it.
+/// The budget that was given, or else the one that stands for it: conflicts, or steps of a survey, whose option has the same name.
 pub fn budget_of(matches: &ArgMatches<'_>) -> u64
     requires { HasNumber (codes "budget") 0 1000000000 (found_of matches.now) }
     ensures { IsSomeAnd (first_value (found_of matches.now) (codes "budget"))

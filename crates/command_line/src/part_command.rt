@@ -33,7 +33,7 @@ Exit status:
     2  the command line or a file is refused
     4  a file or a standard stream failed";
 
-// `--names`.
+// `--names`. Its id is another one, as `names` is the id of the path NAMES.
 fn show_names_argument<'a>(alloc: Global) -> Arg<'a>
     ensures rule { rule_of result ≡ show_names_rule }
     ensures local { result.global ≡ false }

@@ -36,6 +36,7 @@ pub fn words_of<'t>(alloc: Global, texts: &'t Vec<String>) -> Result<Vec<&'t str
     ensures { IfOk result (λ words. map (λ word. word.now) words.items ≡ spelled_out (map string_bytes texts.now.items)) }
 {
     let mut words = Vec::with_capacity(alloc, texts.len())?;
+    // Behind `--` each word is a path, also one that is spelled as an option.
     let mut may_be_option = true;
     for text in texts {
         let word = text.as_str();

@@ -12,7 +12,7 @@ use dimacs::{Failed, Sink, Transcript};
 pub(crate) enum AskedFile<F> {
     /// The file.
     Made(F),
-    /// No file was asked for.
+    /// No file was asked for. The transcript takes no memory: contracts alone see what it took.
     Nowhere(Transcript),
 }
 
@@ -34,7 +34,8 @@ impl<F: Sink> Sink for AskedFile<F> {
     }
 }
 
-/// Makes or opens the file at this path to be written, if there is one.
+/// Makes or opens the file at this path to be written, if there is one. A file that is there keeps what it has until something is written, so a
+/// run that has nothing for it loses nothing.
 pub(crate) fn make_asked<'p, H: Host<'p>>(
     host: &mut H,
     path: Option<&'p str>,

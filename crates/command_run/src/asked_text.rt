@@ -13,7 +13,7 @@ use verdict_report::Source;
 pub(crate) enum AskedText<I> {
     /// The file, of which what is read is kept or not.
     Opened(Keeper<I>),
-    /// There is no path, and this says whether the end was met.
+    /// There is no path, and this says whether the end was met. Contracts alone read that, as of each source.
     Absent(bool),
 }
 

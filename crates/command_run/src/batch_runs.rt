@@ -19,7 +19,7 @@ use std::thread::Threads;
 use survey::BySaturation;
 use verdict_report::{Fault, Status};
 
-/// The most steps of the survey of a long trace, as `survey` takes them without an option.
+/// The most steps of the survey of a long trace, as `survey` takes them without an option. It is also the largest number that option takes.
 pub(crate) const SURVEY_STEPS: u64 = 1_000_000_000;
 
 /// What a batch of files is given, and does not change.
@@ -33,7 +33,8 @@ pub(crate) struct BatchTask<'a, R> {
     pub(crate) search: &'a BatchSearch,
 }
 
-/// The searches of these numbers. Each trace is searched by one thread.
+/// The searches of these numbers. Each trace is searched in one round, and by one thread, since traces are decided side by side by `workers`
+/// threads. The steps of a survey are no part of the options, and are given with the surveyor.
 pub(crate) fn batch_of(numbers: BatchNumbers) -> BatchSearch
     requires { AreBatchNumbers numbers }
 {
@@ -54,7 +55,7 @@ pub(crate) fn batch_of(numbers: BatchNumbers) -> BatchSearch
     }
 }
 
-/// The refusal of a sink.
+/// The refusal of a sink. It ends the whole batch, while a file that cannot be read ends only itself.
 pub(crate) fn refusal_of_sink(fault: SinkFault) -> Fault
     ensures { result ≡ fault_of_sink fault }
 {

@@ -1,4 +1,6 @@
 //! What is said of a trace beside its verdict, and which files are kept of it.
+//!
+//! The verdict of a batch has numbers alone, no schedule and no certificate. So a trace of which more is said is decided once more.
 ghost use Rattle.std.specs.Prelude.{IfErr, IfOk, OnErr, OnOk};
 ghost use Rattle.batch_report.specs.Findings.{PutsLine, finding_of};
 ghost use Rattle.batch_report.specs.PlainLines.{is_plain_line};
@@ -66,7 +68,8 @@ pub(crate) struct Beside<'p> {
 }
 
 impl<'p> Beside<'p> {
-    /// Returns whether more is said of a trace with this verdict.
+    /// Returns whether more is said of a trace with this verdict: its schedule if that is asked for, its open cubes, or why it has none. A survey
+    /// that decides nothing, and a refusal, have nothing more.
     fn says_more(&self, verdict: &PieceVerdict) -> bool {
         match verdict {
             PieceVerdict::Consistent => self.schedules,
@@ -119,7 +122,7 @@ impl<'p> Beside<'p> {
         }
     }
 
-    /// Appends the members that say the details, and keeps the files.
+    /// Appends the members that say the details, and keeps the files. The member with their name comes last, and only after they were made.
     fn push_details<H: Host<'p>>(
         &self,
         alloc: Global,
@@ -179,7 +182,7 @@ pub(crate) struct PlainBeside<'p> {
 }
 
 impl<'p> PlainBeside<'p> {
-    /// Keeps the files of a trace that has no legal schedule.
+    /// Keeps the files of a trace that has no legal schedule. Others are not decided once more, as plain lines say nothing of the details.
     fn keep<R: Threads + Wait + Sync, H: Host<'p>>(
         &self,
         alloc: Global,
@@ -215,6 +218,7 @@ impl<'p, H: Host<'p>> LineForm<H> for PlainBeside<'p> {
         text: &mut Vec<u8>,
         piece: &NumberedPiece<'_>,
     ) -> Result<(), SinkFault> {
+        // Files are kept before the line is made: if that fails, the batch ends without it. The line itself needs no device.
         match self.keep(alloc, rt, devices, piece) {
             Ok(()) => {}
             Err(fault) => return Err(fault),

@@ -17,9 +17,9 @@ pub enum Clash {
     InputTwice,
     /// The certificate would overwrite the trace.
     CertIsTrace,
-    /// The names would.
+    /// The names of the core would overwrite the trace.
     NamesIsTrace,
-    /// The part would.
+    /// The part that the core makes up would overwrite the trace.
     PartIsTrace,
     /// Certificate and names have one file.
     CertIsNames,
@@ -37,11 +37,11 @@ pub enum Clash {
     PictureIsPart,
     /// The certificate would overwrite the hint.
     CertIsHint,
-    /// The names would.
+    /// The names would overwrite the hint.
     NamesIsHint,
-    /// The part would.
+    /// The part would overwrite the hint.
     PartIsHint,
-    /// The picture would.
+    /// The picture would overwrite the hint.
     PictureIsHint,
     /// The folder for what is kept has something.
     FolderIsUsed,
@@ -82,7 +82,8 @@ pub(crate) fn print_clash<E: Sink>(clash: Clash, err: &mut E) -> u8
     print_text(text, REFUSED, err)
 }
 
-/// Returns whether the files at these paths are one.
+/// Returns whether the files at these paths are one. The first is that of a file that is written: the host takes `-` as standard input in the
+/// second place alone. Equal paths are one file without asking the host, as the file may not be there yet.
 fn is_one_file<'p, H: Host<'p>>(host: &mut H, first: &str, second: &str) -> bool
     ensures { IsOneFile H.calls host.old first.now second.now result host.new }
 {
@@ -125,7 +126,8 @@ fn clash_of_two<'p, H: Host<'p>>(
     clash_if_one(is_one, clash)
 }
 
-/// The clash that was found before, or else this one if there are both paths and the files at them are one.
+/// The clash that was found before, or else this one if there are both paths and the files at them are one. After a first clash the host is not
+/// asked about further files, so the order of the calls is the order in which clashes are reported.
 fn or_clash<'p, H: Host<'p>>(
     host: &mut H,
     found: Option<Clash>,
@@ -172,7 +174,8 @@ fn clash_of_survey<'p, H: Host<'p>>(
     or_clash(host, found, files.part, files.hint, Clash::PartIsHint)
 }
 
-/// The first clash of a file that is written.
+/// The first clash of a file that the engine of the line writes, but for the picture. `batch` makes its files in a folder, which is
+/// looked at by itself, and the others write to the standard output alone.
 fn clash_of_files<'p, H: Host<'p>>(host: &mut H, line: &Line<'p>) -> Option<Clash>
     ensures { FindsClash H.calls host.old None (pairings_of line.now) result host.new }
 {
@@ -254,7 +257,7 @@ fn clash_of_written<'p, H: Host<'p>>(host: &mut H, asked: &CommandLine<'p>) -> O
     clash_of_picture(host, found, asked.picture, &asked.line)
 }
 
-/// The clash, if the folder at this path is neither new nor empty.
+/// The clash, if there is a path for a folder, and it is neither new nor empty. Nothing is made yet.
 fn clash_of_folder<'p, H: Host<'p>>(host: &mut H, folder: Option<&'p str>) -> Option<Clash>
     ensures { ClashesOfFolder H.calls host.old folder.entry result host.new }
 {
@@ -317,7 +320,7 @@ fn clash_of_batch<'p, H: Host<'p>>(
     }
 }
 
-/// The first clash of what is written.
+/// The first clash of what is written: of files, and then of a batch.
 fn clash_of_all<'p, H: Host<'p>>(host: &mut H, asked: &CommandLine<'p>) -> Option<Clash>
     ensures { ClashesIf false H.calls host.old asked.now result host.new }
 {
@@ -325,7 +328,7 @@ fn clash_of_all<'p, H: Host<'p>>(host: &mut H, asked: &CommandLine<'p>) -> Optio
     clash_of_batch(host, found, &asked.line)
 }
 
-/// Why the line is refused before anything is opened, or nothing.
+/// Why the line is refused before anything is opened, or nothing. That standard input is read twice is found first, without the host.
 pub(crate) fn clash_of<'p, H: Host<'p>>(host: &mut H, asked: &CommandLine<'p>) -> Option<Clash>
     ensures { ClashesBy H.calls host.old asked.now result host.new }
 {

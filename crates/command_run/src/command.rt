@@ -108,6 +108,7 @@ fn run_drawn<'p, R: Threads + Wait + Sync, G: Gate + Sync, H: Host<'p>, O: Sink 
         report_without_file(alloc, host.failed_file(), asked.explains, is_terminal, err);
         return DEVICE;
     };
+    // Texts are kept only if something is made of them after the run: a picture or an explanation.
     let is_drawn = asked.picture.is_some();
     let mut kept = KeptRun::new(is_drawn || asked.explains.is_wanted(is_terminal));
     let status = run_asked(
@@ -122,6 +123,7 @@ fn run_drawn<'p, R: Threads + Wait + Sync, G: Gate + Sync, H: Host<'p>, O: Sink 
         err,
         &mut kept,
     );
+    // This comes after the explanation, and what fails of it changes neither that nor the status.
     draw_outcome(alloc, &asked.line, status, is_drawn, &kept, &mut file);
     close_asked(host, file);
     status

@@ -89,7 +89,8 @@ fn translate_file<'p, R: Threads + Sync, G, H: Host<'p>, W: Sink>(
         host.old trace.now (sink_run W.written W.failures out.old out.new) result host.new }
 {
     let mut trace = open(run.alloc, host, trace, kept.keeps);
-    // A line has 1 to 8 workers, which the engine asks for: its text is the same for each number.
+    // The engine asks for 1 to 8 workers in its contract. A line has no other number, but that is not known here, so the number is cut to
+    // that range. The text is the same for each.
     let workers = workers.max(1).min(8);
     let outcome = run_cnf(run.alloc, run.rt, &mut trace, workers, out);
     kept.first = trace.into_text();
@@ -232,10 +233,12 @@ fn certify_file<'p, R: Threads + Wait + Sync, G: Gate + Sync, H: Host<'p>, W: Si
         (sink_view H.Output.written H.Output.failures H.Output.path)
         host.old paths.entry.trace.now paths.entry.cert.now search.now (sink_run W.written W.failures out.old out.new) result host.new }
 {
+    // The file is emptied at once, so that an earlier certificate is never taken for that of this run.
     let Ok(file) = host.create(paths.cert, true) else {
         return Err(Fault::Device);
     };
     let mut trace = open(run.alloc, host, paths.trace, kept.keeps);
+    // Only the length of the certificate is recorded, for the note on one that is too long to be read.
     let mut file = Recorder::counting(run.alloc, file);
     host.begin_search(search);
     let gate = AskedGate::new(run.progress, search.tells_progress);

@@ -11,14 +11,14 @@ use note_text::{NamedText, Notes};
 use std::alloc::Global;
 use verdict_report::{Fault, Status};
 
-/// A text that a line reads: its bytes if they were kept, and what failed, in words.
+/// A text that a line reads: its bytes if they were kept, and what failed, in words without the name of its file, which notes add.
 #[derive(Drop)]
 struct InputText<'k> {
     bytes: Option<&'k [u8]>,
     failure: Option<String>,
 }
 
-/// The texts that a line reads.
+/// The texts that a line reads, in the order of `KeptRun`. Which file each of them is, is known by the line.
 #[derive(Drop)]
 struct InputTexts<'k> {
     first: InputText<'k>,
@@ -128,7 +128,8 @@ fn asked_search<'t>(
     }
 }
 
-/// Gives what was asked, with the files that were read for it, or nothing if none was.
+/// Gives what was asked, with the files that were read for it, or nothing if no command is explained: `batch` and the list of refusals. The order
+/// in which a command reads its files is that in which `engine_runs.rt` keeps them.
 fn asked_command<'t>(
     line: &'t Line<'t>,
     texts: &'t InputTexts<'t>,

@@ -104,6 +104,7 @@ fn decide_with_folder<'p, R: Threads + Wait + Sync, H: Host<'p>, W: Sink>(
         made (texts traces.now) (sink_run W.written W.failures out.old out.new) result host.new)
         (sink_run W.written W.failures out.old out.new) result host.new }
 {
+    // The folder is made before the first trace is read, so that a run which cannot keep anything ends at once.
     match output.keep {
         Some(folder) => match host.make_folder(folder) {
             Ok(()) => decide_beside(task, host, traces, output, out),
@@ -113,7 +114,8 @@ fn decide_with_folder<'p, R: Threads + Wait + Sync, H: Host<'p>, W: Sink>(
     }
 }
 
-/// Decides the traces in the files at these paths, with plain lines alone, or with what else is asked for.
+/// Decides the traces in the files at these paths, with plain lines alone, or with what else is asked for. Schedules come with objects of JSON
+/// alone, so they need no case here: a line that asks for them without was refused before.
 pub(crate) fn decide_batch<'p, R: Threads + Wait + Sync, H: Host<'p>, W: Sink>(
     task: &BatchTask<'_, R>,
     host: &mut H,

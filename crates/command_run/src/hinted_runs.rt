@@ -35,7 +35,7 @@ pub(crate) struct AskedSurvey<'a, 'p, R, G> {
     pub(crate) search: &'a SearchRequest,
 }
 
-/// The survey of the request.
+/// The survey of the request. `survey_of` in `search_runs.rt` makes it, so it has a number of steps, and 0 stands for none.
 fn surveyor_of(search: &SearchRequest) -> BySaturation {
     BySaturation {
         budget: search.steps.unwrap_or(0),
@@ -73,6 +73,7 @@ pub(crate) fn survey_with<
         gate: &gate,
     };
     let outcome = run_survey(&run, &surveyor, trace, &mut hint, out);
+    // The trace is the first text, which the caller keeps.
     kept.second = hint.into_text();
     outcome
 }

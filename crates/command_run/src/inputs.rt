@@ -109,7 +109,7 @@ fn is_given_input(path: Option<&str>) -> bool
     }
 }
 
-/// Returns whether more than one of the paths is that of standard input.
+/// Returns whether more than one of the three paths is that of standard input. The second reader would find nothing left of it.
 fn repeats_input(paths: &InputPaths<'_>) -> bool
     ensures { result ≡ repeats_input paths.now }
 {

@@ -6,13 +6,13 @@ use command_host::KeptText;
 /// promised of it.
 #[derive(Drop)]
 pub(crate) struct KeptRun {
-    /// Whether the texts are kept.
+    /// Whether the texts are kept: if an explanation or a picture may be made.
     pub keeps: bool,
     /// The first one: the trace, or a formula.
     pub first: KeptText,
-    /// The second one.
+    /// The second one: a schedule, a model, a proof, a certificate, names, or a hint.
     pub second: KeptText,
-    /// The third one.
+    /// The third one: the names of the part that a certificate is of.
     pub third: KeptText,
     /// The length of the certificate, if one was written.
     pub certificate_length: Option<u64>,

@@ -14,7 +14,7 @@ use trace_text::trace_reader::read_trace;
 /// The steps that the survey for a picture of `verify` may take: a fraction of a second.
 const PICTURE_STEPS: u64 = 20_000_000;
 
-/// The survey for the picture of the line, or none if it has no picture.
+/// The survey for the picture of the line, or none if it has no picture. That of `survey` may take as many steps as the run itself.
 fn surveyor_of(line: &Line<'_>) -> Option<BySaturation> {
     match line {
         Line::Verify { .. } => Some(BySaturation {
@@ -89,6 +89,7 @@ pub(crate) fn draw_outcome<W: Sink>(
     ensures drawn { Draws status (sink_run W.written W.failures file.old file.new) }
     ensures same { W.path file.new ≡ W.path file.old }
 {
+    // The exit statuses 0 and 1 say that there is a legal schedule, or none. All others leave the file as it is.
     if status <= 1 {
         draw_answer(alloc, line, status == 0, is_drawn, kept, file);
     }

@@ -34,7 +34,7 @@ fn write_list<W: Sink>(list: &[u8], out: &mut W) -> Result<Status, Fault>
     write_text(list, out)
 }
 
-/// Answers that there was no memory for the list, of which nothing is written.
+/// Answers that there was no memory for the list, of which nothing is written. The sink is there for the contract alone, which says that.
 fn without_list<W: Sink>(_out: &mut W) -> Result<Status, Fault>
     ensures { WritesList (sink_run W.written W.failures _out.old _out.new) result }
 {

@@ -7,16 +7,17 @@ use command_host::SearchRequest;
 use command_line::{SearchNumbers, SurveyNumbers};
 use cube_jobs::Options;
 
-/// The split of a search after a survey.
+/// The split of a search after a survey: on how many variables it is split at first, so that there are up to 8 cubes. This and the next two
+/// are what `verify` takes without options, and must be changed with its defaults.
 const SURVEY_SPLIT: u32 = 3;
 
-/// The budget of a search after a survey, for each cube.
+/// The budget of a search after a survey: conflicts for each cube.
 const SURVEY_CONFLICTS: u64 = 100_000;
 
 /// The rounds of a search after a survey.
 const SURVEY_ROUNDS: u32 = 1;
 
-/// The search of these numbers.
+/// The search of these numbers, which are within the ranges that `Options` takes, so none of them is refused.
 pub(crate) fn search_of(numbers: SearchNumbers, tells_progress: bool) -> SearchRequest
     requires { AreSearchNumbers numbers }
     ensures { result ≡ search_of numbers tells_progress }

@@ -8,7 +8,7 @@ use dimacs::{Sink, write_whole};
 use std::alloc::{AllocError, Global};
 use verdict_report::{Fault, Status, write_fault};
 
-/// The exit status of a command line that is refused.
+/// The exit status of a command line that is refused. What an engine refuses has the same one, but for a device that fails.
 pub(crate) const REFUSED: u8 = 2;
 
 /// The exit status if a standard stream fails.
@@ -51,7 +51,7 @@ fn text_of(alloc: Global, fault: &LineFault) -> Result<String, AllocError>
     format!(in alloc; "{fault}")
 }
 
-/// Prints the help, or what is wrong with the command line.
+/// Prints the help or the version to standard output, or what is wrong with the command line to standard error, and gives the exit status.
 pub(crate) fn tell_line_fault<O: Sink, E: Sink>(
     alloc: Global,
     fault: &LineFault,

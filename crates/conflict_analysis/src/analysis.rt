@@ -1,4 +1,7 @@
 //! The analysis of a conflict.
+//!
+//! Past the end of a table `at` reads as its last argument, and `put` does nothing; so arithmetic may wrap, and a wrong place makes no fault. Pairs are
+//! numbered by rising times, and a larger number never has a smaller level.
 
 use crate::clause_grounds::ClauseGrounds;
 use crate::learned_clauses::{LearnedClauses, Literal};
@@ -49,15 +52,19 @@ pub struct Analysis {
     pub(crate) is_marked: Vec<bool>,
     /// The pairs that are marked.
     marked: Vec<u32>,
+    /// A hash table without search: each question has one slot.
     answered: Vec<Answered>,
+    /// The number of the analysis at hand. What another one has answered does not count.
     turn: u32,
-    /// The largest number of a pair that is marked and was not looked at.
+    /// The largest number of a pair that is marked and was not looked at. It only rises, and both ways back begin at it: reasons of a pair have smaller
+    /// numbers.
     pub(crate) highest: u32,
     /// The level of the last decision that the conflict rests on, and the number of marked pairs of it that were not looked at.
     top: u32,
     left_at_top: u32,
     literals: Vec<Literal>,
-    /// The reader's sources at a time, of each interval: where it begins and ends.
+    /// The reader's sources at a time, of each interval: where it begins and ends. Both are positions among the writers of `ValueClasses`, and
+    /// `ask_sources` sets them.
     pub(crate) lows: Vec<u32>,
     pub(crate) highs: Vec<u32>,
     /// Whether pairs of no decision are asked for too, for a core.
@@ -72,6 +79,7 @@ pub struct Analysis {
     pub(crate) grounds: ClauseGrounds,
     /// For each learned clause whether the last core rests on it.
     pub(crate) is_needed: Vec<bool>,
+    /// Looks at entries that `take_steps` has not handed over yet.
     pub(crate) steps: u64,
 }
 
@@ -139,6 +147,7 @@ impl Analysis {
         self.literals.clear();
         self.turn = self.turn.wrapping_add(1);
         self.highest = 0;
+        // No pair has this level, so `mark` counts none before `find_top` has counted them.
         self.top = NO_NUMBER;
         self.left_at_top = 0;
         self.asks_all = false;
@@ -155,7 +164,8 @@ impl Analysis {
         self.asks_all = true;
     }
 
-    /// Names the operation as one that the conflict rests on. A number of no operation is none.
+    /// Names the operation as one that the conflict rests on. A number of no operation is none. The final value of a location, as a reader, has such a
+    /// number.
     pub fn name(&mut self, operation: OperationId) -> Result<(), AllocError> {
         if !at(self.is_named.as_slice(), operation.number(), true) {
             put(self.is_named.as_mut_slice(), operation.number(), true);
@@ -191,6 +201,7 @@ impl Analysis {
             Conflict::Cycle(pair) => {
                 self.name_ends(pair)?;
                 self.ask_reason(order, clauses, pair)?;
+                // No way is needed from an operation to itself: a pair of one operation is a cycle alone.
                 if pair.first != pair.second {
                     self.ask(order, pair.second, pair.first, pair.time)?;
                 }
@@ -241,7 +252,8 @@ impl Analysis {
         Ok(())
     }
 
-    /// Returns whether the question was answered in this analysis, by pairs that are old enough. If not, it is now.
+    /// Returns whether the question was answered in this analysis, by pairs that are old enough. If not, it is now. The factors are odd numbers that
+    /// scatter neighbours among the slots.
     fn is_answered(&mut self, question: WayQuestion) -> bool {
         let mixed = question
             .first
@@ -266,7 +278,7 @@ impl Analysis {
         false
     }
 
-    /// Marks the pair.
+    /// Marks the pair. The number must be that of a pair, since the table gets entries up to it.
     pub(crate) fn mark(&mut self, order: &Propagation<'_>, number: u32) -> Result<(), AllocError> {
         for _ in size(self.is_marked.as_slice())..number.saturating_add(1) {
             self.is_marked.push(false)?;
@@ -301,10 +313,12 @@ impl Analysis {
                 continue;
             }
             let pair = order.pairs().pair(number);
+            // All pairs before it are of no decision too: such a pair needs no literal.
             if pair.level == 0 {
                 break;
             }
             self.name_ends(pair)?;
+            // The pair turned round. Of pairs of earlier levels no reason is asked: they become literals themselves.
             let literal = Literal {
                 first: pair.second,
                 second: pair.first,
@@ -316,10 +330,12 @@ impl Analysis {
                 asserted = Some(literal);
                 self.literals.push(literal)?;
             } else {
+                // The pair is looked at, and those of its reason that are of this level are counted by `mark`.
                 self.left_at_top = self.left_at_top.wrapping_sub(1);
                 self.ask_reason(order, clauses, pair)?;
             }
         }
+        // The decision of the last level is such a point at the latest, so there is one.
         let Some(literal) = asserted else {
             return Ok(Backjump::Refuted);
         };
@@ -327,7 +343,8 @@ impl Analysis {
         Ok(Backjump::To(level, literal))
     }
 
-    /// Keeps what the clause rests on that was just found.
+    /// Keeps what the clause rests on that was just found. The list that this adds has the number of the clause, since each clause that is found is added
+    /// to `LearnedClauses` next.
     fn keep_grounds(&mut self, order: &Propagation<'_>) -> Result<(), AllocError> {
         self.base_pairs.clear();
         for number in self.marked.as_slice() {
@@ -341,6 +358,7 @@ impl Analysis {
         self.grounds.add(operations, clauses, pairs)
     }
 
+    /// Names both operations of the pair.
     pub(crate) fn name_ends(&mut self, pair: OrderedPair) -> Result<(), AllocError> {
         self.name(pair.first)?;
         self.name(pair.second)

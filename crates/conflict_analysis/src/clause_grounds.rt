@@ -29,6 +29,7 @@ impl<T: Copy> GroundLists<T> {
         })
     }
 
+    /// Adds a list behind all others.
     fn add(&mut self, list: &[T]) -> Result<(), AllocError> {
         for entry in list {
             self.entries.push(*entry)?;
@@ -53,6 +54,7 @@ impl<T: Copy> GroundLists<T> {
         self.begin(number.wrapping_add(1))
     }
 
+    /// The entries of the list of this number.
     pub(crate) fn list(&self, number: u32) -> &[T] {
         piece(
             self.entries.as_slice(),
@@ -61,12 +63,13 @@ impl<T: Copy> GroundLists<T> {
         )
     }
 
+    /// The entry at this place among those of all lists, or the other value past the end.
     pub(crate) fn entry(&self, place: u32, otherwise: T) -> T {
         at(self.entries.as_slice(), place, otherwise)
     }
 }
 
-/// The most entries of one kind. Beyond these a walk goes on, and has no core.
+/// The number of operations, or of pairs, in all lists beyond which no list is added. The walk goes on then, and has no core.
 const MOST_ENTRIES: u32 = 1 << 21;
 
 /// For each learned clause what its derivation rests on: the operations that it names, the clauses that it uses, and pairs of no decision.
@@ -74,7 +77,9 @@ pub(crate) struct ClauseGrounds {
     pub(crate) operations: GroundLists<OperationId>,
     pub(crate) clauses: GroundLists<u32>,
     pub(crate) pairs: GroundLists<u32>,
+    /// A list of each kind for each clause, so that the lists of a clause have its number.
     count: u32,
+    /// Whether each clause has its lists. If one has none, numbers of later ones would not fit, and no core is made.
     is_whole: bool,
 }
 

@@ -31,8 +31,11 @@ impl Analysis {
         if !self.grounds.is_whole() {
             return Ok(None);
         }
+        // What was marked for the clause at which a walk has ended stays marked: the core goes on from it.
         self.is_needed = vec![in alloc; false; self.grounds.count() as usize]?;
         self.take_used(order)?;
+        // What a pair, or the clause that it uses, rests on was there before it and has smaller numbers; so each marked pair is still to come when it is
+        // marked.
         for number in (0..self.highest.wrapping_add(1)).rev() {
             self.steps = self.steps.wrapping_add(1);
             if self.is_spent(order) {

@@ -1,4 +1,6 @@
 //! Learned clauses.
+//!
+//! Past the end of a table `at` reads as its last argument, and `put` does nothing; so arithmetic may wrap, and a wrong place makes no fault.
 
 use closed_rows::PairReason;
 use numbered_log::OperationId;
@@ -22,10 +24,13 @@ const NO_LITERAL: Literal = Literal {
 /// A clause: one of its literals holds.
 #[derive(Clone, Copy)]
 struct LearnedClause {
+    /// Its literals stand in the table of all from the first place up to the second, which is not one of them.
     begin: u32,
     end: u32,
-    /// Two literals that were not refuted when they were last looked at.
+    /// Two literals that were not refuted when they were last looked at. They are places in the table of all literals, and the same one twice if they were
+    /// not looked for yet. To take decisions back refutes no literal, so they need not be undone.
     watched: (u32, u32),
+    /// Whether it is looked at. One that is given up stays a reason of pairs, so its literals stay.
     is_kept: bool,
 }
 
@@ -58,7 +63,9 @@ pub struct LearnedClauses {
     /// The numbers of those that are looked at, rising, and the most of them.
     kept: Vec<u32>,
     most: u32,
+    /// For each operation the sum of the gains of clauses that name it, of which later ones weigh more.
     activities: Vec<u64>,
+    /// What a new clause adds to the activity of each operation that it names.
     gain: u64,
 }
 
@@ -112,7 +119,7 @@ impl LearnedClauses {
         size(self.clauses.as_slice())
     }
 
-    /// Returns whether there is no room for more.
+    /// Returns whether there is no room for more. The walk then gives up.
     pub fn is_full(&self) -> bool {
         size(self.literals.as_slice()) >= MOST_LITERALS
     }
@@ -166,6 +173,7 @@ impl LearnedClauses {
         put(self.activities.as_mut_slice(), operation.number(), raised);
     }
 
+    /// Divides all by 2 to the power of 40, which is the largest gain by the first one: so old activities keep their size beside new ones.
     fn divide_activities(&mut self) {
         self.gain = FIRST_GAIN;
         for operation in OperationId::first(size(self.activities.as_slice())) {
@@ -211,6 +219,7 @@ impl LearnedClauses {
                 Propagated::Conflict => return Ok(Propagated::Conflict),
                 Propagated::Spent => return Ok(Propagated::Spent),
             }
+            // A clause adds a pair or is a conflict, so without a new pair nothing more follows.
             let before = order.pairs().count();
             match self.look_at_all(order) {
                 Ok(()) => {}
@@ -242,6 +251,7 @@ impl LearnedClauses {
         Ok(())
     }
 
+    /// Returns whether the order has the literal at this place turned round.
     #[inline(always)]
     fn is_refuted(&self, order: &Propagation<'_>, place: u32) -> bool {
         let literal = self.literal(place);
@@ -266,7 +276,7 @@ impl LearnedClauses {
         self.watch_anew(order, number, clause)
     }
 
-    /// Finds two literals that are not refuted.
+    /// Finds two literals that are not refuted. If all are refuted, it returns one of these: to add that pair is a conflict.
     fn watch_anew(
         &mut self,
         order: &Propagation<'_>,

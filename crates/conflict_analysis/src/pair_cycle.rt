@@ -1,4 +1,6 @@
 //! A cycle of pairs and program order.
+//!
+//! Past the end of a table `at` reads as its last argument, and `put` does nothing; so arithmetic may wrap, and a wrong place makes no fault.
 
 use numbered_log::{NO_NUMBER, ProcessId, ProcessPlace};
 use order_propagation::Propagation;
@@ -26,7 +28,8 @@ impl Drop for PassedFronts {
     }
 }
 
-/// The numbers of the pairs of a cycle that the pairs make with program order; none if there is no cycle.
+/// The numbers of the pairs of a cycle that the pairs make with program order; none if there is no cycle. They stand backwards: the first operation of each
+/// is of the process to which the second of the next one belongs, at that place or behind it.
 pub fn pairs_of_cycle(alloc: Global, order: &Propagation<'_>) -> Result<Vec<u32>, AllocError> {
     let mut fronts = PassedFronts::new(alloc, order)?;
     fronts.pass_all(order);
@@ -50,6 +53,7 @@ impl PassedFronts {
         Ok(fronts)
     }
 
+    /// The place of the process's next operation.
     fn front(&self, process: ProcessId) -> ProcessPlace {
         at(self.fronts.as_slice(), process.number(), ProcessPlace::FAR)
     }
@@ -92,7 +96,8 @@ impl PassedFronts {
         begin < end
     }
 
-    /// Passes all operations that stand behind no cycle.
+    /// Passes all operations that stand behind no cycle. Each round passes an operation or is the last one, so in the end each process that is not at its
+    /// end waits for such a process.
     fn pass_all(&mut self, order: &Propagation<'_>) {
         for _ in 0..order.log().count() {
             let mut passes = false;
@@ -105,7 +110,7 @@ impl PassedFronts {
         }
     }
 
-    /// A process whose next operation waits.
+    /// A process whose next operation waits. `ProcessId::NONE` if there is none, of which tables have no entry, so no chain begins.
     fn first_waiting(&self, order: &Propagation<'_>) -> ProcessId {
         for process in order.log().process_ids() {
             if self.awaited(order, process) != NO_NUMBER {

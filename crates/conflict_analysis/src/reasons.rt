@@ -1,4 +1,6 @@
 //! The reasons of pairs and of lost sources.
+//!
+//! Past the end of a table `at` reads as its last argument, and `put` does nothing; so arithmetic may wrap, and a wrong place makes no fault.
 
 use crate::analysis::Analysis;
 use crate::learned_clauses::LearnedClauses;
@@ -44,6 +46,7 @@ impl Analysis {
         for run in 0..size(self.lows.as_slice()) {
             let low = at(self.lows.as_slice(), run, 0);
             if low < at(self.highs.as_slice(), run, 0) {
+                // The first source that was left stands before the others of its interval, so it is enough to ask for it.
                 let source = order.classes().writer(low);
                 if source != pair.first {
                     self.ask(order, pair.first, source, pair.time)?;
@@ -64,6 +67,7 @@ impl Analysis {
         for run in 0..size(self.lows.as_slice()) {
             let high = at(self.highs.as_slice(), run, 0);
             if at(self.lows.as_slice(), run, 0) < high {
+                // The last source that was left stands behind the others of its interval.
                 let source = order.classes().writer(high.wrapping_sub(1));
                 self.ask(order, source, pair.second, pair.time)?;
             }
@@ -88,7 +92,8 @@ impl Analysis {
         Ok(())
     }
 
-    /// Asks why the reader lost the sources that it had lost at this time, and notes those that it had left.
+    /// Asks why the reader lost the sources that it had lost at this time, and notes those that it had left. These are in `lows` and `highs` afterwards,
+    /// until the next call, for each interval from one position up to another, which is not one of them.
     pub fn ask_sources(
         &mut self,
         order: &Propagation<'_>,
@@ -137,7 +142,9 @@ impl Analysis {
         Ok(())
     }
 
-    /// Asks why the first sources of the interval are hidden. Returns where the interval began at the time.
+    /// Asks why the first sources of the interval are hidden. Returns where the interval began at the time. Losses at one end of an interval are a list,
+    /// the last first: each that is not older than the time is undone on the way. The first that is older says why all before the bound are hidden, so its
+    /// cause alone is asked for.
     fn ask_hidden(
         &mut self,
         order: &Propagation<'_>,

@@ -1,4 +1,6 @@
 //! A way from one operation to a later one by program order and older pairs.
+//!
+//! Past the end of a table `at` reads as its last argument, and `put` does nothing; so arithmetic may wrap, and a wrong place makes no fault.
 
 use numbered_log::{NO_NUMBER, OperationId};
 use order_propagation::Propagation;
@@ -19,8 +21,10 @@ pub struct WayQuestion {
 pub struct WaySearch {
     /// The number of the search at hand, by which each operation that it has met is known.
     turn: u32,
+    /// For each operation the number of the search that has met it last.
     turns: Vec<u32>,
-    /// For each operation that was met the number of new pairs up to it.
+    /// For each operation that was met the number of new pairs up to it. It is of use only while `turns` has the number of the search at hand, as is the
+    /// arrival.
     lengths: Vec<u32>,
     /// The pair by which it was met, or `NO_NUMBER` for the one before it in its process.
     arrivals: Vec<u32>,
@@ -31,6 +35,7 @@ pub struct WaySearch {
     way: Vec<u32>,
     /// Whether a way may lead over any operation, and not only over those that stand before its end by the rows.
     leads_anywhere: bool,
+    /// Looks that `take_steps` has not handed over yet.
     steps: u64,
 }
 
@@ -52,6 +57,7 @@ impl Drop for WaySearch {
 }
 
 impl WaySearch {
+    /// A search that has not begun, in a log of this number of operations.
     pub fn new(alloc: Global, operations: u32) -> Result<WaySearch, AllocError> {
         let count = operations as usize;
         Ok(WaySearch {
@@ -115,7 +121,8 @@ impl WaySearch {
         at(self.turns.as_slice(), number.number(), 0) == self.turn
     }
 
-    /// Goes on from the first operation of the question until its second is met, or nothing is left.
+    /// Goes on from the first operation of the question until its second is met, or nothing is left. `costs` has for each pair whether it is marked, and
+    /// whether pairs of no decision cost as others do.
     fn look_for(
         &mut self,
         order: &Propagation<'_>,
@@ -127,6 +134,7 @@ impl WaySearch {
         self.far.clear();
         self.meet(question.first, 0, NO_NUMBER, true)?;
         let mut length: u32 = 0;
+        // The bound is never reached: an operation is met again only at a smaller length.
         for _ in 0..u64::MAX {
             let Some(number) = self.near.pop() else {
                 if self.far.is_empty() {
@@ -139,6 +147,7 @@ impl WaySearch {
             if number == question.second {
                 break;
             }
+            // An operation that was met again at a smaller length is still in the list of the larger one, and was gone on from before.
             if at(self.lengths.as_slice(), number.number(), 0) == length {
                 self.go_on(order, question, number, length)?;
                 self.follow_pairs(order, question, (number, length), costs)?;
@@ -221,6 +230,7 @@ impl WaySearch {
         from: (OperationId, u32),
         costs: (&[bool], bool),
     ) -> Result<(), AllocError> {
+        // The last pair comes first, so those that are too new are passed over, and older ones follow.
         let mut number = order.pairs().last_of(from.0);
         for _ in 0..order.pairs().count() {
             if number == NO_NUMBER {
@@ -238,7 +248,7 @@ impl WaySearch {
         Ok(())
     }
 
-    /// Notes the pairs of the way that was found.
+    /// Notes the pairs of the way that was found. If the second operation was not met, there are none.
     fn trace_back(
         &mut self,
         order: &Propagation<'_>,
@@ -252,6 +262,7 @@ impl WaySearch {
             }
             let arrival = at(self.arrivals.as_slice(), number.number(), NO_NUMBER);
             if arrival == NO_NUMBER {
+                // It was met from the operation before it in its process, whose number is one less.
                 number = number.previous();
             } else {
                 self.way.push(arrival)?;

@@ -3,6 +3,7 @@
 //! No variable is 0, so two codes are free for constants: one for a literal that is never true, and its negation.
 
 /// A literal that is always true.
+/// It is the negation of `NEVER`. Neither is written: a step that has this one is left out as a tautology.
 pub const ALWAYS: u32 = 1;
 
 /// Returns whether one of two literals is true under all assignments.

@@ -36,6 +36,7 @@ fn add_clause(
             hints.push(units.hint(choice.literal() ^ 1))?;
         } else {
             literals.push(elimination.literal(choice.source, operation))?;
+            // The first clause of a choice says that the source stands before the reader. With that denied the choice is not made.
             hints.push(i64::from(choice.first))?;
             elimination.set_other(place, elimination.place_of(choice.source));
         }

@@ -69,7 +69,7 @@ impl Elimination {
         })
     }
 
-    /// Returns the place of this operation.
+    /// Returns the place of this operation among those that are eliminated, or `u32::MAX` if it is none of them: at that place the tables record nothing.
     pub fn place_of(&self, operation: u32) -> u32 {
         let place = self
             .operations
@@ -111,7 +111,9 @@ impl Elimination {
         self.others.set(place, other, 1);
     }
 
-    /// Resolves the last operation out of the clause of this one.
+    /// Resolves the last operation out of the clause of this one. The negation of the new clause makes the clause of this operation say that the last
+    /// stands on this side of it; with that each transitivity clause denies one literal of the last one's clause, which is then false. If
+    /// that clause has a literal on this operation, it is the opposite order, and false already.
     fn leave_out(
         &mut self,
         alloc: Global,

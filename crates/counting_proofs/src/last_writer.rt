@@ -17,7 +17,8 @@ struct Defined {
 }
 
 /// Adds the definition of a literal which says that this candidate is the last writer: all others stand before it. The long clause is added
-/// first: the short ones are RAT on the new variable, and their hints name it.
+/// first: the short ones are RAT on the new variable, and their hints name it. They follow one after the other by rising numbers of writers,
+/// as `ReadsFromEdge` counts on from the first to the one against a given writer.
 fn define_last(
     alloc: Global,
     log: &mut StepLog,
@@ -48,7 +49,7 @@ fn define_last(
 }
 
 /// Adds the clause which says that the candidate is the last writer, or another candidate comes after it: any other writer has a candidate
-/// behind it.
+/// behind it, by a unit clause. So if no candidate stands behind this one, none of the writers does.
 fn add_clause(
     alloc: Global,
     log: &mut StepLog,
@@ -84,7 +85,8 @@ fn add_clause(
     log.delete(&[defined.only])
 }
 
-/// Returns the readers with one more after them, which has the last writer as its source.
+/// Returns the readers with one more after them, which has the last writer as its source. Its choices stand in the order of the candidates, as in
+/// `source_matching`, where the Hall violator was made: it names choices by their numbers.
 fn with_last_reader(
     alloc: Global,
     reads: &MatchingInstance,

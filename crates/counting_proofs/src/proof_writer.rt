@@ -7,7 +7,7 @@ use lrat_check::derivation::Derivation;
 use proof_log::codes::NEVER;
 use std::alloc::{AllocError, Global};
 
-/// A literal with the clauses of its definition.
+/// A literal with the clauses of its definition, in the order in which they are added. A place without a clause has a tautology.
 #[derive(Clone, Copy)]
 pub struct Definition {
     pub literal: u32,
@@ -24,7 +24,7 @@ impl Definition {
     }
 }
 
-/// Returns the hint that begins a group for the clause.
+/// Returns the hint that begins a group for the clause. Here a group has no further hints, since the resolvent with its clause is a tautology.
 fn group(known: ShortClause) -> i64 {
     -i64::from(known.id)
 }
@@ -102,7 +102,8 @@ impl ProofWriter {
         })
     }
 
-    /// Adds the step of this clause, of which these may be hints, in this order.
+    /// Adds the step of this clause, of which these may be hints, in this order. One that is not unit at its turn is passed over and not tried
+    /// again, so each must stand behind those that make it unit.
     pub fn derive(
         &mut self,
         literals: [u32; 3],
@@ -116,7 +117,8 @@ impl ProofWriter {
     }
 
     /// Adds a clause of a definition, by resolution on its first literal (RAT). Each clause with the negation of that literal has a group,
-    /// so the order in which a definition's clauses are added is the one on which its hints rest.
+    /// so the order in which a definition's clauses are added is the one on which its hints rest. The first literal is the new variable or its
+    /// negation, and is no constant. The first clause that is opposed may be a tautology alone, the second only if both are.
     fn define(
         &mut self,
         literals: [u32; 3],
@@ -162,6 +164,7 @@ impl ProofWriter {
         together: (u32, u32),
     ) -> Result<Definition, AllocError> {
         let (one, other) = together;
+        // With a part that is never true `by_both` would be a tautology, and `define` would then leave out the group of `by_alone` too.
         if alone == ALWAYS || one == NEVER || other == NEVER {
             return Ok(Definition::same(alone));
         }

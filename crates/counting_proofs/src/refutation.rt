@@ -18,6 +18,7 @@ use std::alloc::{AllocError, Global};
 #[derive(Drop)]
 pub struct Premises<'a> {
     pub steps: Vec<Step>,
+    /// The numbers of the unit clauses, in the order of the contradiction's `rests_on`.
     pub clauses: &'a [u32],
 }
 

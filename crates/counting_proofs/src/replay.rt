@@ -27,6 +27,7 @@ impl ShortClause {
 /// only.
 #[derive(Drop)]
 pub struct Replay {
+    /// The codes of the literals that are true. `ALWAYS` is the first of them, so the constant that fills up a clause counts as false.
     trues: Vec<u32>,
     hints: Vec<i64>,
     /// Whether a conflict was reached: a clause all of whose literals are false.
@@ -96,7 +97,7 @@ impl Replay {
     }
 
     /// Adds the clause of this number as a hint without a look at its literals, which the caller knows. The last one that is added so is
-    /// the conflict, and any before it are unit.
+    /// the conflict, and any before it are unit. It counts as a conflict at once, so `propagate` adds nothing after it.
     pub fn add_unchecked(&mut self, id: u32) -> Result<(), AllocError> {
         self.hints.push(i64::from(id))?;
         self.has_conflict = true;

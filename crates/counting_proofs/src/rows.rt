@@ -10,12 +10,16 @@ use std::alloc::{AllocError, Global};
 
 /// The counts of the readers 1 to i: for sources 1 to j and a count k the literal "at least k of them have one of these sources", and
 /// clauses on it. Some of these literals are constants: each reader has a source, and no two have the same.
+///
+/// Readers, sources and counts run from 1, and the row of reader 0 is the empty one. With n sources there are n + 1 readers. The tables go up to
+/// n + 1, since the clause that j + 1 readers have not j sources stands at the source j and the count j + 1.
 pub struct CountRow {
     reader: u32,
     sources: u32,
-    /// For each source j a literal that says that the reader i has one of the sources 1 to j.
+    /// For each source j a literal that says that the reader i has one of the sources 1 to j. For the last source that is a constant, and its entry
+    /// keeps only the clause "it has the last source or one before it", at place 2.
     served: Grid<Definition>,
-    /// For each j and k the literal and its definition.
+    /// For each j (the row of the table) and k (its column) the literal and its definition.
     counts: Grid<Definition>,
     /// If at least k of them have one of the sources 1 to j, and none has j, then k have one of those before j.
     without_last: Grid<ShortClause>,
@@ -65,7 +69,8 @@ impl CountRow {
     }
 
     /// Returns the literal that says that at least `count` of the readers have one of the sources up to this one. Most are constants and get
-    /// no variable: of n sources about a sixth of the cube of n are left.
+    /// no variable: of n sources about a sixth of the cube of n are left. At most the sources after this one serve readers besides, one each: so a
+    /// count that leaves out no more readers than these is always reached.
     fn at_least(&self, count: u32, source: u32) -> u32 {
         if count > self.reader {
             return NEVER;
@@ -83,7 +88,8 @@ impl CountRow {
         self.counts.get(source, count).literal
     }
 
-    /// Returns the smallest count for which the literal of this source is no constant.
+    /// Returns the smallest count for which the literal of this source is no constant: those up to reader + source - sources are always reached, as
+    /// `at_least` says.
     fn least_open(&self, source: u32) -> u32 {
         let readers = self.reader.wrapping_add(source).wrapping_add(1);
         readers.saturating_sub(self.sources).max(1)
@@ -115,8 +121,8 @@ impl CountRow {
         }
     }
 
-    /// Writes a clause for a count and source whose literal is a constant, so that the next row finds it at the place of a definition's
-    /// clause.
+    /// Writes a clause for a count and source whose literal is a constant, so that later steps find it at the place of a definition's
+    /// clause. Its literals are those of that clause without the constant.
     fn set_border(&mut self, source: u32, count: u32, which: usize, known: ShortClause) {
         let mut definition = self.counts.get(source, count);
         if which < definition.clauses.len() {
@@ -142,6 +148,7 @@ impl CountRow {
             before = definition.literal;
         }
         let last = has_source(reads, shortage, self.reader, self.sources);
+        // From the last source down each of these hints makes a choice false; with none left the clause of the choices is the conflict.
         writer.begin([before, last, NEVER])?;
         for source in (1..self.sources).rev() {
             let definition = self.served.get(0, source);
@@ -156,7 +163,7 @@ impl CountRow {
     }
 
     /// Adds the clauses for the literals that are always true: this number of readers have a source up to this one, since the sources after
-    /// it have no room for the others.
+    /// it have no room for the others. From the last source down, since each clause rests on that of the source behind it at a count one larger.
     pub fn add_full_ends(
         &mut self,
         writer: &mut ProofWriter,
@@ -189,7 +196,8 @@ impl CountRow {
     }
 
     /// Adds the clauses for the literals that are never true, for the sources up to the last of these: a number of sources has at most as
-    /// many readers. For all readers and all sources that is the empty clause.
+    /// many readers. From the first source up, since each clause rests on that of the source before it. For all readers and all sources that is the
+    /// empty clause.
     pub fn add_crowded_ends(
         &mut self,
         writer: &mut ProofWriter,
@@ -234,7 +242,8 @@ impl CountRow {
         Ok(())
     }
 
-    /// Adds the clauses on a source that none of the readers has.
+    /// Adds the clauses on a source that none of the readers has. They begin one count below the open ones: there the literal of this source is always
+    /// true, and that of the source before it is not.
     pub fn add_without_last(
         &mut self,
         writer: &mut ProofWriter,
@@ -269,7 +278,8 @@ impl CountRow {
         Ok(())
     }
 
-    /// Adds the clauses on one source fewer: it takes at most one reader away.
+    /// Adds the clauses on one source fewer: it takes at most one reader away. For the last source, and for other counts, the clause
+    /// would be a tautology.
     pub fn add_one_fewer(
         &mut self,
         writer: &mut ProofWriter,

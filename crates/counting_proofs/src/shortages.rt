@@ -62,12 +62,15 @@ fn add_row(
     let clause = open_clause(alloc, writer, cited, number)?;
     row.add_served(writer, reads, shortage, clause)?;
     row.add_full_ends(writer, taken, before)?;
+    // The row before has one reader fewer: from the source of this reader's number on the clauses would be tautologies.
     let last = reader.min(sources).saturating_sub(1);
     row.add_crowded_ends(writer, taken, before, last)?;
     row.add_counts(writer, before)?;
+    // The last two cite clauses that the three before have added to this row.
     row.add_without_last(writer, taken, before)?;
     row.add_one_fewer(writer, taken, before)?;
     let mut old = Vec::new(alloc);
+    // Only a clause that `open_clause` has added is deleted, and not one that was there before.
     if clause != reads.reader(number).clause {
         old.push(clause)?;
     }
@@ -111,6 +114,7 @@ pub fn add_shortage(
         reads,
         units,
     };
+    // One reader without an open choice: what is left of its clause is empty.
     if shortage.sources() == 0 {
         let clause = open_clause(alloc, writer, cited, shortage.reader(1))?;
         let _id = writer.log().add(&[], &[i64::from(clause)])?;

@@ -22,10 +22,12 @@ pub struct Free {
 pub struct StepLog {
     alloc: Global,
     steps: Vec<Step>,
+    /// The number of the next clause. It grows for clauses that are left out too.
     next_id: u32,
     next_variable: u32,
     /// Number of further steps for which there is room.
     left: u64,
+    /// Whether nothing was left out.
     is_whole: bool,
 }
 

@@ -11,8 +11,11 @@ use total_tables::{at, put};
 /// that this one has not if one before it has.
 #[derive(Drop)]
 pub struct Taken {
+    /// Number of sources, plus one: readers and sources are counted from 1, and at reader 0 no source is taken.
     columns: u32,
+    /// By reader and source the literal that one of the readers up to this one has the source. Reader 0 has none, so there it is `NEVER`.
     definitions: Grid<Definition>,
+    /// By reader and source the clause that this reader has not the source if one before it has.
     exclusions: Grid<ShortClause>,
 }
 
@@ -80,7 +83,8 @@ impl Taken {
         Ok(taken)
     }
 
-    /// Adds the steps of this source, and deletes the clauses on pairs, of which the number grows with the square of the readers.
+    /// Adds the steps of this source, and deletes the clauses on pairs, of which the number grows with the square of the readers. The last clause of
+    /// each definition goes with them, as only exclusions cite it. The last reader needs no definition: no reader comes after it.
     fn add_source(
         &mut self,
         alloc: Global,

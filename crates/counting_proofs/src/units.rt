@@ -6,6 +6,7 @@ use total_tables::{at, put, size};
 /// For each literal the number of its unit clause, or 0.
 #[derive(Drop)]
 pub struct UnitTable {
+    /// By the code of the literal.
     clauses: Vec<u32>,
 }
 
@@ -26,7 +27,7 @@ impl UnitTable {
         Ok(units)
     }
 
-    /// Returns the hint that makes the literal true.
+    /// Returns the hint that makes the literal true. For a literal without a unit clause that is 0, the number of no clause.
     pub fn hint(&self, literal: u32) -> i64 {
         i64::from(at(self.clauses.as_slice(), literal, 0))
     }

@@ -5,7 +5,8 @@ use crate::outcome::Outcome;
 use dimacs::{Cube, Lit, MAX_CUBE_LITERALS};
 use std::alloc::Global;
 
-/// A cube to search, under a ticket: its leaf's number. It is not copied, so that each job is in one place at a time. Contracts see it as
+/// A cube to search, under a ticket: its leaf's number, from 0. A job that only stops a worker has a ticket from the number of leaves on, and no
+/// literal. It is not copied, so that each job is in one place at a time. Contracts see it as
 /// the pair of its ticket and its cube.
 #[derive(Drop)]
 pub struct Job {

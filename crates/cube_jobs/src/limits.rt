@@ -1,9 +1,9 @@
 //! The limits of a search.
 
-/// Maximum number of workers.
+/// Maximum number of workers. Contracts of the queue, the stop word, the dealing machine and the ledger say 8 as a number, and change with it.
 pub const MAX_WORKERS: u32 = 8;
 
-/// Maximum depth of the first tree.
+/// Maximum depth of the first tree. A full tree of this depth has `MAX_CUBES` leaves.
 pub const MAX_SPLIT: u32 = 10;
 
 /// Maximum number of conflicts in a cube before it stays open.

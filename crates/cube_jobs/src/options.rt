@@ -48,6 +48,7 @@ impl FaultCause for BadOption {
 
     ghost name_of = { cause_name };
 
+    // From 2 on: 1 is no cause, since it says that memory ran out.
     fn number(&self) -> u8 {
         match self {
             BadOption::Workers => 2,
@@ -129,7 +130,7 @@ impl Options {
     }
 }
 
-/// Returns the number of workers, at most one for each leaf.
+/// Returns the number of workers, at most one for each leaf, and so 0 if there is no leaf. Callers take 0 and 1 alike: they start no thread.
 pub fn needed(workers: u32, leaves: usize) -> u32
     ensures few { result ≤ workers }
     ensures used { result ≤ leaves }

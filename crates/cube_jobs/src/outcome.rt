@@ -9,7 +9,8 @@ pub enum Outcome {
     Model(Assignment),
     /// A derivation that shows that there is none.
     Refuted(Derivation),
-    /// The search ended without either.
+    /// The search ended without either, as when its budget was used up or memory ran out. The ledger takes it for an answer, so the leaf is not searched
+    /// again unless it is split.
     Open,
     /// The cube was not searched, since a lower leaf has a model.
     Skipped,

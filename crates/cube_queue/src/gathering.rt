@@ -10,7 +10,8 @@ use std::alloc::Global;
 use std::sync::Wait;
 use text_lines::plain_fault::PlainFault;
 
-/// Gathers the given number of results, in the order in which they come. `Cut` if the channel ends before, which it does once all workers have left.
+/// Gathers the given number of results, in the order in which they come. `Cut` if the channel ends before. The board holds both ends of it, so in a
+/// search it does not end, and the call waits until the number has come: the caller asks only for what the workers will give.
 /// Room for all is made first, so that no result is taken out of the channel and then lost for lack of memory.
 pub(crate) fn gather_all<R: Wait>(
     alloc: Global,

@@ -28,7 +28,8 @@ fn knows_model<L: ClauseList>(formula: &L, known_before: bool, results: &[Settle
     known_before || ends_in_model(formula, results)
 }
 
-/// Searches the cubes of these leaves of the tree one after the other, between the two calls of the gate, as worker 0.
+/// Searches the cubes of these leaves of the tree one after the other, between the two calls of the gate, as worker 0. The leaves rise, so after a
+/// model all that come are higher, and are skipped.
 pub(crate) fn search_in_turn<L: ClauseList, S: CubeSolver, G: Gate>(
     alloc: Global,
     formula: &L,

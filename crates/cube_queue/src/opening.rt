@@ -31,7 +31,8 @@ fn paired(
     Ok(members)
 }
 
-/// Opens a board and a stop word for 1 to 8 workers and 1 to 1,024 cubes, and returns all seats at both, with the jobs that will be put.
+/// Opens a board and a stop word for 1 to 8 workers and 1 to 1,024 cubes, and returns all seats at both, with the jobs that will be put. `cubes` is
+/// the number of all leaves of the tree, also if only some have jobs: a ticket is a leaf's number, and one from `cubes` on stops a worker.
 /// Twice as many jobs as workers may wait at the board.
 pub(crate) fn open(
     alloc: Global,

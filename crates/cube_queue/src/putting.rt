@@ -45,6 +45,7 @@ pub(crate) fn put_stops<R: Wait>(
 {
     let cubes = board.cubes();
     for worker in 0..board.workers() {
+        // Past the leaves, so that it is a stop ticket, and rising, as the board asks of all that is put.
         let stop = Job::new(alloc, cubes + worker, &[]);
         match board.put(rt, seat, stop) {
             Ok(()) => (),

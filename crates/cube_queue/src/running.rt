@@ -39,6 +39,7 @@ fn run_members<'s, E, R: Threads + Wait + Sync, S: Settler + Sync, G: Gate + Syn
         jobs,
     } = crew;
     let count = jobs.len();
+    // If this fails, the scope still joins the threads that were started, so these need their stop tickets.
     let handles = match start_all(alloc, rt, scope, site, settler, gate, members) {
         Ok(handles) => handles,
         Err(fault) => {
@@ -49,6 +50,7 @@ fn run_members<'s, E, R: Threads + Wait + Sync, S: Settler + Sync, G: Gate + Syn
     if !deal(alloc, rt, &site.board, &mut dealer, jobs) {
         return Err(PlainFault::For(SearchCause::Cut));
     }
+    // Only now, when all jobs are put: no worker waits for it, since the result channel has room for the results of all cubes.
     let results = gather_all(alloc, rt, &site.board, &mut collector, count)?;
     let members = join_all(rt, handles)?;
     Ok(Returned {

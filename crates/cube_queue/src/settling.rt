@@ -9,7 +9,7 @@ use dimacs::{ClauseList, Lit};
 use proof_log::{Answer, CubeSolver};
 use std::alloc::Global;
 
-/// A formula, a solver of its cubes, and how many conflicts are worked on in a cube.
+/// A formula, a solver of its cubes, and how many conflicts are worked on in a cube. The formula is there to try models on, and the solver has its own form of it.
 #[derive(Clone, Copy)]
 pub(crate) struct CubeSettler<'a, L, S> {
     pub(crate) formula: &'a L,

@@ -16,7 +16,7 @@ use std::alloc::Global;
 use std::sync::Wait;
 use stop_word::StopSeat;
 
-/// Returns whether a mark was shown that is below this ticket.
+/// Returns whether a mark was shown that is below this ticket: then the lowest model is in a lower leaf, and this job cannot change the verdict.
 fn is_past(shown: Option<u32>, ticket: u32) -> bool
     ensures { IsTrue result → or_nothing shown < ticket }
 {
@@ -42,13 +42,15 @@ fn look_and_settle<S: Settler, G: Gate>(
     ensures lower { stop.new.knows.least ≤ stop.old.knows.least }
     ensures skipped { result.outcome ≡ Skipped → stop.new.knows.least < result.ticket }
 {
+    // The gate comes before the look: a test that waits in it decides what the look can show.
     gate.before(worker, job.ticket());
     let shown = site.word.look(stop);
     let skips = is_past(shown, job.ticket());
     settler.settle(alloc, job, skips)
 }
 
-/// Marks the result's ticket where the result is a model of the clauses that makes its cube true.
+/// Marks the result's ticket where the result is a model of the clauses that makes its cube true. It is tried first: if it were none, the leaves that
+/// were skipped for it would stay unproved.
 fn mark_model<S: Settler>(site: &SharedSearch, settler: &S, stop: &mut StopSeat, settled: &Settled)
     requires { stop.old.word ≡ site.now.word }
     ensures stop { (stop.new.word ≡ site.now.word) × (stop.new.knows.parts ≡ stop.old.knows.parts) }

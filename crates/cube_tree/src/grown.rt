@@ -40,7 +40,7 @@ fn full_tree_of(alloc: Global, variables: &[u32]) -> Result<Tree, AllocError>
 }
 
 /// The full tree whose splits at depth k are of the k-th split variable of the layout, from 0. It is as deep as is asked, or as
-/// there are split variables.
+/// there are split variables. At depth 10 it has 1,024 leaves, which is the limit of a tree.
 pub fn grow(alloc: Global, layout: &Layout, depth: u32) -> Result<Tree, AllocError>
     requires { depth ≤ 10 }
     ensures { IfOk result (λ tree. tree ≡ full_tree (take depth (splits layout.now))) }

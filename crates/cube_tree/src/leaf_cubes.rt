@@ -18,6 +18,7 @@ pub fn cubes(alloc: Global, tree: &Tree) -> Result<Vec<Cube>, AllocError>
     let mut due = Vec::new(alloc);
     due.push(Cube::empty(alloc))?;
     let mut rest = tree.nodes();
+    // The cubes of the nodes that are still to come, the next one last. A tree's nodes end just when none is left.
     while let Some((node, after)) = rest.split_first() {
         let Some(cube) = due.pop() else {
             break;
@@ -26,6 +27,7 @@ pub fn cubes(alloc: Global, tree: &Tree) -> Result<Vec<Cube>, AllocError>
             Node::Leaf => cubes.push(cube)?,
             Node::Split(variable) => {
                 let literal = Lit::positive(*variable);
+                // The right tree is pushed first, since the left one comes first.
                 due.push(cube.with(alloc, literal.negated()))?;
                 due.push(cube.with(alloc, literal))?;
             }

@@ -16,7 +16,7 @@ use dimacs::MAX_VARIABLE;
 use std::alloc::{AllocError, Global};
 use text_lines::fault::PlacedFault;
 
-/// Why the leaf is not split, if it is not.
+/// Why the leaf is not split, if it is not. Of several reasons the one with the lowest number is named, which is asked for first.
 fn fault_of_split(alloc: Global, tree: &Tree, k: u32) -> Result<Option<SplitCause>, AllocError>
     ensures { IfOk result (λ fault. fault ≡ split_fault tree.now k) }
 {
@@ -63,6 +63,7 @@ fn tree_with_split(alloc: Global, tree: &Tree, k: u32, variable: u32) -> Result<
 {
     let nodes = tree.nodes();
     let Some(place) = leaf_place(nodes, k as usize) else {
+        // The contract rules out the cause `NoSuchLeaf`.
         unreachable!();
     };
     let nodes = nodes_with_split(alloc, nodes, place, variable)?;

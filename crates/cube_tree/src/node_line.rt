@@ -12,7 +12,7 @@ use std::alloc::AllocError;
 use text_lines::numbers::read_plain;
 use text_lines::words::{cut_word, is_word};
 
-/// The variable that the word writes.
+/// The variable that the word writes as a plain number from 1 on.
 fn read_variable(word: &[u8]) -> Option<u32>
     ensures { result ≡ variable_of word.now }
 {
@@ -23,7 +23,7 @@ fn read_variable(word: &[u8]) -> Option<u32>
     Some(variable as u32)
 }
 
-/// The node that the line says.
+/// The node that the line says. A further word after it makes the line wrong.
 pub(crate) fn read_node(line: &[u8]) -> Option<Node>
     ensures { result ≡ node_of (words_of line.now) }
 {

@@ -20,6 +20,7 @@ impl FaultCause for SplitCause {
 
     ghost name_of = { cause_name };
 
+    /// The number that stands for the cause. It begins at 2, since 1 says in each table of causes that memory ran out.
     fn number(&self) -> u8 {
         match self {
             SplitCause::NoSuchLeaf => 2,

@@ -12,7 +12,7 @@ use std::marker::Model;
 /// A tree whose nodes split on a variable or are leaves. It is at most 20 splits deep and has at most 1,024 leaves. In the
 /// left tree of a split its variable is true, in the right tree false.
 pub struct Tree {
-    /// In preorder.
+    /// In preorder: a split, then the nodes of its left tree, then those of its right tree. Leaves are numbered from left to right.
     nodes: Vec<Node>,
 }
 
@@ -53,7 +53,7 @@ fn count_leaves(nodes: &[Node]) -> u32
 }
 
 impl Tree {
-    /// The tree of these nodes.
+    /// The tree of these nodes. By the contract they are one whole tree in preorder within the limits; nothing is checked when run.
     pub(crate) fn of_nodes(nodes: Vec<Node>) -> Tree
         requires { AreNodes nodes.items }
         ensures { result ≡ tree_of nodes.items }

@@ -15,7 +15,7 @@ use std::alloc::{AllocError, Global};
 use text_lines::fault::PlacedFault;
 use text_lines::lines::cut_line;
 
-/// The node on the line, which is due at this depth after this number of leaves.
+/// The node on the line, which is due at this depth, the number of splits above it, after this number of leaves.
 fn take_line(line: &[u8], depth: u32, leaves: usize) -> Result<Node, TreeCause>
     ensures { MatchResult result
         (λ node. (node_of (words_of line.now) ≡ Some node) × (node_fault depth leaves (Some node) ≡ None))
@@ -60,6 +60,7 @@ pub fn read_tree(alloc: Global, text: &[u8]) -> Result<(Tree, usize), PlacedFaul
     ensures faulty { IfErr result (λ fault. IsRefusal (HasTreeFault text.now) fault) }
 {
     let mut nodes = Vec::new(alloc);
+    // The depths of the nodes that are still to come, the next one last. The tree ends when none is left.
     let mut due = Vec::new(alloc);
     due.push(0)?;
     let mut leaves = 0usize;
@@ -83,5 +84,6 @@ pub fn read_tree(alloc: Global, text: &[u8]) -> Result<(Tree, usize), PlacedFaul
         bytes += line.len() + 1;
         rest = after;
     }
+    // The last line may end with the text, without the line feed that was counted.
     Ok((Tree::of_nodes(nodes), text.len().min(bytes)))
 }

@@ -9,7 +9,7 @@ use std::marker::Model;
 /// The most workers of a machine.
 const PLACES: usize = MAX_WORKERS as usize;
 
-/// For each worker what it has in flight: a ticket, or nothing. Of the eight places those of the machine's workers count.
+/// For each worker what it has in flight: a ticket, or nothing. Of the eight places the first `workers` count, and the others stay empty.
 #[derive(Drop)]
 pub(crate) struct Hands {
     places: [Option<u32>; PLACES],

@@ -21,7 +21,9 @@ use text_lines::plain_fault::PlainFault;
 pub struct Machine {
     jobs: VecDeque<u32>,
     hands: Hands,
+    /// No two have one ticket, since `put` refuses a ticket that is anywhere in the machine.
     given: Vec<GivenOutcome>,
+    /// The number of outcomes of `given` that are in the ledger.
     gathered: usize,
 }
 
@@ -127,6 +129,7 @@ impl Machine {
         if self.hands.hand(worker).is_some() {
             return Err(PlainFault::For(EventCause::Busy));
         }
+        // There is a front, since the queue is not empty.
         let front = self.jobs.pop_front();
         self.hands.put(worker, front);
         Ok(())
@@ -142,6 +145,7 @@ impl Machine {
         let Some(ticket) = self.hands.hand(worker) else {
             return Err(PlainFault::For(EventCause::HoldsNothing));
         };
+        // First what may find no memory: then the worker still has its job, and the machine is unchanged.
         self.given.push(GivenOutcome { ticket, outcome })?;
         self.hands.put(worker, None);
         Ok(())

@@ -30,6 +30,7 @@ impl FaultCause for EventCause {
 
     ghost name_of = { cause_name };
 
+    // From 2 on: 1 is no cause, since it says that memory ran out.
     fn number(&self) -> u8 {
         match self {
             EventCause::PutTwice => 2,

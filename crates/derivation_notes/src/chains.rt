@@ -4,10 +4,12 @@ use crate::facts::{Facts, OrderReason};
 use std::alloc::{AllocError, Global};
 use verdict_notes::KeptOp;
 
-/// The most steps in which a chain is taken apart.
+/// The most steps in which a chain is taken apart. Of a trace that is noted at most 160 operations are kept, so a chain that meets none of them
+/// twice takes fewer than 320. Before a contradiction is reached the known orders may have a cycle, and then chains may be far longer.
 const MAX_STEPS: u64 = 2_000;
 
-/// The operations from the first to the second, each of which stands before the next one for a reason that is no chain.
+/// The operations from the first to the second, both included, each of which stands before the next one for a reason that is no chain. If
+/// the bound is reached, the chain is a front of the whole one, and does not reach the second operation.
 pub fn chain_between(
     alloc: Global,
     facts: &Facts,
@@ -24,6 +26,7 @@ pub fn chain_between(
         };
         match facts.reason_of(from, to) {
             Some(OrderReason::Through(middle)) => {
+                // The last pair is taken first, so the nearer half comes last and the chain grows from its first operation on.
                 due.push((middle, to))?;
                 due.push((from, middle))?;
             }
@@ -43,7 +46,8 @@ pub fn is_program_order(ops: &[KeptOp<'_>], first: usize, second: usize) -> bool
     }
 }
 
-/// The chain without the operations that stand between two others of their process.
+/// The chain without the operations that stand between two others of their process: program order leads over them. The first and the last
+/// operation are always kept. Neighbours are those of the whole chain, so of a run of one process its two ends are left.
 pub fn shortened(
     alloc: Global,
     ops: &[KeptOp<'_>],

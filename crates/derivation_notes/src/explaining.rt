@@ -22,7 +22,7 @@ use std::alloc::{AllocError, Global};
 use trace_semantics::trace::Trace;
 use verdict_notes::{ShownPlaces, kept_ops};
 
-/// The most hints of a derivation that is said clause by clause.
+/// The most hints of a derivation that is said clause by clause, those of all steps together.
 const MAX_HINTS: u64 = 60;
 
 /// The most steps of a derivation that is said clause by clause.
@@ -102,6 +102,7 @@ fn explain_accepted(
     requires { IsAccepted (clauses_of clauses.now) [] derivation.now }
 {
     let ops = kept_ops(alloc, trace, places)?;
+    // Clauses name operations by their numbers among those that the reduction keeps. Both must number the same ones.
     if ops.len() != clauses.layout().operations() {
         return Ok(Telling::NotInSentences);
     }
@@ -125,7 +126,8 @@ fn explain_accepted(
     Ok(Telling::InSentences)
 }
 
-/// Says all steps. The answer is whether each of them ends with a contradiction.
+/// Says all steps, in the order of the derivation: the list has the last one first. The answer is whether each of them ends with a contradiction.
+/// If one does not, what was said goes nowhere, since sentences are noted only by `note_all`.
 fn tell_steps(teller: &mut Teller<'_>, needed: &NeededSteps<'_>) -> Result<bool, AllocError> {
     let steps = needed.steps.as_slice();
     for k in (0..steps.len()).rev() {
@@ -137,7 +139,7 @@ fn tell_steps(teller: &mut Teller<'_>, needed: &NeededSteps<'_>) -> Result<bool,
     Ok(true)
 }
 
-/// Notes how many clauses contradict each other.
+/// Notes how many clauses contradict each other, of all clauses of the formula.
 fn explain_extent(notes: &mut Notes, used: u64, all: u64) {
     let used = decimal(used);
     let all = decimal(all);

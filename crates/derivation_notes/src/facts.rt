@@ -3,14 +3,15 @@
 use known_literals::KnownLiterals;
 use std::alloc::{AllocError, Global};
 
-/// Why an order of two operations is known.
+/// Why an order of two operations is known. Operations are named by their numbers, from 0, in the reduced trace.
 #[derive(Clone, Copy)]
 pub enum OrderReason {
     ProgramOrder,
+    /// The trace says it, by a before line or by times.
     BeforePair,
-    /// The operation of this number stands between them.
+    /// The operation of this number stands between them, and both halves were known before this order.
     Through(usize),
-    /// A sentence has said it.
+    /// A sentence has said it, or a step supposes it: no further reason is given.
     Said,
 }
 
@@ -25,7 +26,9 @@ pub struct ReasonedOrder {
 /// The literals that are true, and the orders among them with their reasons.
 #[derive(Drop)]
 pub struct Facts {
+    /// All literals that are true, by which clauses are followed.
     pub literals: KnownLiterals,
+    /// The orders that they say, by which sentences are made.
     orders: Vec<ReasonedOrder>,
 }
 
@@ -38,7 +41,7 @@ impl Facts {
         }
     }
 
-    /// Adds an order, with its reason.
+    /// Adds an order, with its reason. The caller adds its literal to `literals`. If an order is added twice, its first reason stands.
     pub fn add_order(
         &mut self,
         first: usize,

@@ -7,7 +7,7 @@ use std::alloc::AllocError;
 use var_layout::candidate::FinalChoice;
 use var_layout::layout::Layout;
 
-/// The writers that leave the final value of this number.
+/// The writers that may leave the final value of this number, which counts from 0 in the trace's list. There are none if the number is too large.
 fn finals_of(layout: &Layout, final_value: usize) -> &[FinalChoice] {
     if final_value < layout.final_values() {
         layout.finals(final_value)
@@ -27,7 +27,8 @@ fn last_of(choices: &[FinalChoice], variable: u32) -> Option<usize> {
 }
 
 impl<'t> Teller<'t> {
-    /// Says the clause that a writer leaves the final value of this number.
+    /// Says the clause that a writer leaves the final value of this number. If there is no such writer, two clauses contradict each other on a
+    /// variable that no writer has: the first says nothing, and the second is the contradiction.
     pub fn tell_last(&mut self, final_value: usize, conclusion: Conclusion) {
         let choices = finals_of(self.clauses.layout(), final_value);
         let is_only = choices.len() == 1;
@@ -56,7 +57,8 @@ impl<'t> Teller<'t> {
             .say(&[Phrase::Whole(writer), Phrase::Words(words)]);
     }
 
-    /// Says the clause that the other writer stands before the last one.
+    /// Says the clause that the other writer stands before the last one. It concludes that order; or, if the opposite order
+    /// is known, that `last` is not the last one; or a contradiction, if that is known to be it.
     pub fn tell_before_last(
         &mut self,
         last: usize,

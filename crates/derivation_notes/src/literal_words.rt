@@ -10,8 +10,11 @@ use verdict_notes::Sentence;
 /// What a variable stands for, of operations by their numbers.
 #[derive(Clone, Copy)]
 enum VariableMeaning {
+    /// The reader reads from the candidate.
     Source { reader: usize, candidate: Candidate },
+    /// This writer leaves a final value.
     Last(usize),
+    /// No choice has the variable: it belongs to a read or a final value that nothing can give, of which two clauses contradict each other.
     Nothing,
 }
 
@@ -40,7 +43,7 @@ fn last_of(layout: &Layout, variable: u32) -> Option<usize> {
     None
 }
 
-/// Gives what the variable stands for, if it is none of the order.
+/// Gives what the variable stands for. The caller has found that it is none of the order: those are not looked for here.
 fn meaning_of(layout: &Layout, variable: u32) -> VariableMeaning {
     for reader in 0..layout.operations() {
         if let Some(candidate) = choice_of(layout, reader, variable) {
@@ -84,7 +87,7 @@ fn add_last(story: &Story<'_>, sentence: &mut Sentence, writer: usize, is_positi
     sentence.add(&[words, b" the last write there"]);
 }
 
-/// Adds what the literal says.
+/// Adds what the literal says. Variables of the order are known by their numbers, and all others are looked up in the tables of the layout.
 pub fn add_literal(layout: &Layout, story: &Story<'_>, sentence: &mut Sentence, literal: Lit) {
     if let Some((first, second)) = order_of(layout.operations(), literal) {
         story.add_phrase(sentence, Phrase::Name(first));

@@ -7,8 +7,10 @@ use std::alloc::{AllocError, Global};
 /// A step that adds a clause.
 #[derive(Drop)]
 pub struct NeededStep<'d> {
+    /// The id of its clause. Clauses of the formula have the ids from 1 to their number, and those of steps larger ones.
     pub id: u64,
     pub literals: &'d [Lit],
+    /// The ids of the clauses that justify it, in the order of their use. A negative one names a clause of which further hints follow.
     pub hints: Vec<i64>,
 }
 
@@ -21,9 +23,9 @@ pub struct NeededSteps<'d> {
 /// The ids of clauses that are needed. Steps are looked through from the last one back, so a mark is not taken away when its step is found: no earlier one has that id.
 #[derive(Drop)]
 struct Wanted {
-    /// The number of clauses that are no steps'.
+    /// The number of clauses of the formula, whose ids come before those of steps.
     count: u64,
-    /// Whether the clause is wanted whose id is this much above `count`.
+    /// Whether the clause is wanted whose id is this much above `count`. Place 0 is used by none.
     marks: Vec<bool>,
 }
 
@@ -36,7 +38,7 @@ impl Wanted {
         usize::try_from(id - self.count).ok()
     }
 
-    /// Marks the clauses of these hints.
+    /// Marks the clauses of these hints, but for those of the formula, which have no mark.
     fn mark(&mut self, hints: &[i64]) {
         for hint in hints {
             if let Some(place) = self.place(hint.unsigned_abs()) {
@@ -69,7 +71,8 @@ fn largest_id(steps: &[Step]) -> u64 {
     largest
 }
 
-/// The most ids of steps that are looked at.
+/// The largest span of ids of steps for which marks are made, a byte for each. Ids may have gaps, so the span may
+/// be larger than the number of steps.
 const MAX_IDS: u64 = 50_000_000;
 
 /// Room for marks of the ids above `count`, or nothing if there are too many.
@@ -101,6 +104,7 @@ pub fn needed_steps<'d>(
         } = &steps[k]
         {
             let literals = literals.as_slice();
+            // The last empty clause is the contradiction. Nothing is wanted before it is met, so steps behind it are passed over.
             let is_end = needed.is_empty() && literals.is_empty();
             if is_end || wanted.wants(*id) {
                 let hints = hints.to_vec(alloc)?;

@@ -10,7 +10,7 @@ use var_layout::candidate::{Candidate, ReadsFromChoice};
 use var_layout::layout::Layout;
 use verdict_notes::origin_of;
 
-/// The choices of the reader.
+/// The choices of the reader, or none if the operation of this number reads nothing.
 fn choices_of(layout: &Layout, reader: usize) -> &[ReadsFromChoice] {
     if !layout.is_reader(reader) {
         return &[];
@@ -28,7 +28,8 @@ fn chosen(layout: &Layout, reader: usize, variable: u32) -> Option<Candidate> {
     None
 }
 
-/// Returns whether the line of the operation of this number says from where it reads.
+/// Returns whether the line of the operation of this number says from where it reads. Then the
+/// line, and not the values, is given as the reason.
 fn has_origin(story: &Story<'_>, number: usize) -> bool {
     match story.ops().get(number) {
         Some(op) => match origin_of(op.op) {
@@ -85,7 +86,8 @@ impl<'t> Teller<'t> {
         }
     }
 
-    /// Says why the reader reads from this candidate.
+    /// Says why the reader reads from this candidate. `is_only` says that it has no other candidate at all; otherwise the others were ruled out
+    /// before.
     fn say_source(&mut self, reader: usize, candidate: Candidate, is_only: bool) {
         let by_line = has_origin(&self.story, reader);
         match candidate {
@@ -123,7 +125,8 @@ impl<'t> Teller<'t> {
         }
     }
 
-    /// Says the clause that the operation reads from somewhere.
+    /// Says the clause that the operation reads from somewhere. If nothing can be its source, two clauses contradict each other on a variable that
+    /// no candidate has: the first says nothing, and the second is the contradiction.
     fn tell_source(&mut self, reader: usize, conclusion: Conclusion) {
         let layout = self.clauses.layout();
         let is_only = choices_of(layout, reader).len() == 1;
@@ -196,7 +199,8 @@ impl<'t> Teller<'t> {
         Ok(())
     }
 
-    /// Says the clause that the writer does not stand between the source and the reader.
+    /// Says the clause that the writer does not stand between the source and the reader. An order that it concludes is one of two: that the writer
+    /// stands before the source, or after the reader.
     fn tell_not_between(
         &mut self,
         reader: usize,
@@ -246,7 +250,8 @@ impl<'t> Teller<'t> {
         self.say_order(writer, reader)
     }
 
-    /// Says to which side of the source and the reader the writer is pushed.
+    /// Says to which side of the source and the reader the writer is pushed. What is known is said first: a writer that stands before the reader is
+    /// pushed before the source, and one that stands after the source is pushed after the reader.
     fn say_pushed(
         &mut self,
         reader: usize,

@@ -15,11 +15,13 @@ const MAX_NAMED: u64 = 40;
 /// The clauses and the operations on which a derivation rests.
 #[derive(Drop)]
 pub struct Rests {
+    /// Whether the clause at this place of the formula is used. Its id is one more than its place.
     clauses: Vec<bool>,
+    /// Whether a used clause speaks of the operation of this number.
     operations: Vec<bool>,
 }
 
-/// Marks this place.
+/// Marks this place, unless it is past the end.
 fn mark(marks: &mut Vec<bool>, place: usize) {
     if place < marks.len() {
         marks[place] = true;
@@ -56,7 +58,7 @@ impl Rests {
         Ok(rests)
     }
 
-    /// Marks the clauses of these hints.
+    /// Marks the clauses of these hints. Ids of steps are past the end, so only clauses of the formula are marked.
     fn add_hints(&mut self, hints: &[i64]) {
         for hint in hints {
             let id = hint.unsigned_abs();
@@ -67,7 +69,8 @@ impl Rests {
         }
     }
 
-    /// Marks the operations of which the marked clauses say something but that they stand in program order or in an order.
+    /// Marks the operations of which the marked clauses say something but that they stand in program order or in an order. Clauses of these two
+    /// kinds stand at the front of the formula, before what is read.
     fn add_operations(&mut self, clauses: &TraceClauses, meanings: &ClauseRuns<'_>) {
         for place in clauses.reads_start()..clauses.count() {
             if self.clauses.get(place).copied().unwrap_or(false) {
@@ -117,7 +120,7 @@ impl Rests {
         }
     }
 
-    /// The number of clauses.
+    /// The number of clauses of the formula that are used.
     pub fn count_clauses(&self) -> u64 {
         count(self.clauses.as_slice())
     }

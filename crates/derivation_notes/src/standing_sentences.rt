@@ -8,12 +8,13 @@ use crate::telling::{Conclusion, Teller};
 pub struct SentenceEnds {
     /// If that is a contradiction.
     pub contradiction: &'static [u8],
-    /// If it rules something out.
+    /// If it rules something out: a source of a reader, or a last writer.
     pub otherwise: &'static [u8],
 }
 
 impl<'t> Teller<'t> {
-    /// Says that the operation stands so to the other one, with the end for the conclusion.
+    /// Says that the operation stands so to the other one, with the end for the conclusion. Callers have dealt with a conclusion that is an order,
+    /// so `otherwise` stands for a variable alone.
     pub fn say_stands<'w>(
         &mut self,
         operation: usize,

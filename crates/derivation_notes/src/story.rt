@@ -4,7 +4,8 @@ use note_text::Notes;
 use std::alloc::Global;
 use verdict_notes::{KeptOp, Sentence};
 
-/// Operations by their numbers, and sentences on them.
+/// Operations by their numbers, and sentences on them. The sentences are handed on together by `note_all`, or dropped if the derivation turns out
+/// to be one that cannot be said.
 pub struct Story<'t> {
     alloc: Global,
     ops: Vec<KeptOp<'t>>,

@@ -22,7 +22,7 @@ pub enum Conclusion {
     Contradiction,
     /// The first operation stands before the second.
     Order(usize, usize),
-    /// Something else, of this variable.
+    /// Something else, of this variable: from where an operation reads or not, or which writer is the last one or not.
     Of(u32),
 }
 
@@ -36,7 +36,8 @@ pub enum StepEnd {
     Unclear,
 }
 
-/// The words that the trace puts the first operation before the second by a line or by times, which the clause does not say.
+/// The words that the trace puts the first operation before the second by a line or by times, which the clause does not say. If both do, times
+/// are named.
 fn known_words(ops: &[KeptOp<'_>], first: usize, second: usize) -> &'static [u8] {
     match (ops.get(first), ops.get(second)) {
         (Some(earlier), Some(later)) if ends_before(earlier.op.span(), later.op.span()) => {
@@ -46,7 +47,7 @@ fn known_words(ops: &[KeptOp<'_>], first: usize, second: usize) -> &'static [u8]
     }
 }
 
-/// The words of the reason of a clause of one order.
+/// The words of the reason of a clause of one order. Its caller gives `BeforePair` or `ProgramOrder` alone.
 fn words_of(reason: OrderReason, ops: &[KeptOp<'_>], first: usize, second: usize) -> &'static [u8] {
     match reason {
         OrderReason::BeforePair => known_words(ops, first, second),
@@ -60,9 +61,12 @@ fn words_of(reason: OrderReason, ops: &[KeptOp<'_>], first: usize, second: usize
 pub struct Teller<'t> {
     alloc: Global,
     pub clauses: &'t TraceClauses,
+    /// What each clause of the formula says, by its place, from 0.
     meanings: ClauseRuns<'t>,
     pub story: Story<'t>,
+    /// What is known in the step at hand. Each step begins anew with what it supposes.
     facts: Facts,
+    /// The orders that `say_order` has said in the step at hand, so that none is said twice.
     said: Vec<(usize, usize)>,
 }
 
@@ -169,7 +173,8 @@ impl<'t> Teller<'t> {
         Ok(())
     }
 
-    /// The operation through which the other literals of a clause of transitivity lead from the first to the second.
+    /// The operation through which the other literals of a clause of transitivity lead from the first to the second. Each literal but the conclusion
+    /// is false, so its negation is an order that is known.
     fn middle_of(&self, literals: &[Lit], first: usize, second: usize) -> Option<usize> {
         for literal in literals {
             if let Some((a, b)) = order_of(self.operations(), literal.negated()) {
@@ -181,7 +186,8 @@ impl<'t> Teller<'t> {
         None
     }
 
-    /// Says a cycle of three operations.
+    /// Says a cycle of three operations: the negations of the three literals, each of which is known. It begins with the first literal, and looks
+    /// for the one that goes on from where the chain ends. Each of the three orders is said as the chain behind it.
     fn say_cycle(&mut self, literals: &[Lit]) -> Result<(), AllocError> {
         let Some(literal) = literals.first() else {
             return Ok(());
@@ -196,6 +202,7 @@ impl<'t> Teller<'t> {
                 break;
             };
             let more = chain_between(self.alloc, &self.facts, last, next)?;
+            // The first operation of this chain is the last one of the chain before it.
             for operation in more.as_slice().get(1..).unwrap_or(&[]) {
                 cycle.push(*operation)?;
             }
@@ -218,7 +225,7 @@ impl<'t> Teller<'t> {
         None
     }
 
-    /// Says a clause of transitivity.
+    /// Says a clause of transitivity. An order that it concludes is only kept, as a chain: it is said when a sentence needs it.
     fn tell_transitivity(
         &mut self,
         literals: &[Lit],
@@ -237,7 +244,7 @@ impl<'t> Teller<'t> {
         }
     }
 
-    /// Says a clause of one order.
+    /// Says a clause of one order. The order is only kept, and is said when a sentence needs it; but if the opposite one is known, both are said.
     fn tell_order(
         &mut self,
         literals: &[Lit],
@@ -324,7 +331,8 @@ impl<'t> Teller<'t> {
         self.keep_order(conclusion)
     }
 
-    /// Says the clause of this id of these literals, by what is implied.
+    /// Says the clause of this id of these literals, by what is implied: `unit`, or a contradiction if there is none. An id of no needed step is
+    /// that of a clause of the formula, which stands one place lower, as places count from 0 and ids from 1.
     fn tell_clause(
         &mut self,
         needed: &NeededSteps<'_>,
@@ -349,7 +357,8 @@ impl<'t> Teller<'t> {
         }
     }
 
-    /// Follows the clause of these literals.
+    /// Follows the clause of these literals. It is said before its literal becomes known, so that the sentence uses only what was known. A clause
+    /// that a known literal satisfies is passed over; one that is open otherwise is no hint that unit propagation can use.
     fn follow_clause(
         &mut self,
         needed: &NeededSteps<'_>,
@@ -380,7 +389,7 @@ impl<'t> Teller<'t> {
         }
     }
 
-    /// Follows the hint.
+    /// Follows the hint. One that is not positive belongs to a step that is justified by more than unit propagation, which no sentence says.
     fn follow(&mut self, needed: &NeededSteps<'_>, hint: i64) -> Result<StepEnd, AllocError> {
         if hint <= 0 {
             return Ok(StepEnd::Unclear);
@@ -398,7 +407,7 @@ impl<'t> Teller<'t> {
         self.follow_clause(needed, id, clause.as_slice())
     }
 
-    /// Supposes that the clause of a step is false.
+    /// Forgets what the step before it knew and said, and supposes that the clause of a step is false.
     fn suppose(&mut self, literals: &[Lit]) -> Result<(), AllocError> {
         self.facts = Facts::new(self.alloc);
         self.said = Vec::new(self.alloc);
@@ -431,7 +440,8 @@ impl<'t> Teller<'t> {
         self.story.end(&sentence);
     }
 
-    /// Says the step of this number. The answer is whether its hints lead to a contradiction.
+    /// Says the step of this number, counted from 1. The answer is whether its hints lead to a contradiction. A derivation of one step has no number
+    /// and supposes nothing, as its clause is the empty one.
     pub fn tell(
         &mut self,
         needed: &NeededSteps<'_>,

@@ -8,7 +8,8 @@ use crate::literal::Lit;
 use crate::variable_table::{VariableTable, VariableText};
 use std::marker::Model;
 
-/// Maximum length of both lines, in bytes.
+/// Maximum length of both lines, in bytes. It is twice `SHORT_LINE`, since `put_short_clause` asks for that room for each line; six literals and
+/// two ends need less.
 pub(crate) const AGREEMENT: usize = 84;
 
 /// The texts of the three literals, each of which says that its variable is true.
@@ -29,7 +30,7 @@ impl Model for AgreementTexts {
 }
 
 impl AgreementTexts {
-    /// The texts of the three literals, if the table has them.
+    /// The texts of the three literals, if the table has them. It has none of a literal that says that its variable is false.
     #[inline(always)]
     fn of(first: Lit, second: Lit, third: Lit, table: &VariableTable) -> Option<AgreementTexts>
         ensures { IfSome result (λ texts. texts ≡ flat_map clause_line ((neg_ℤ first ∷ neg_ℤ second ∷ third ∷ []) ∷ (first ∷ second ∷ neg_ℤ third ∷ []) ∷ [])) }

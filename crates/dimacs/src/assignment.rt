@@ -8,6 +8,7 @@ use std::marker::Model;
 
 /// A truth value for each variable: those of 1, 2 and so on, and false past its end.
 pub struct Assignment {
+    /// Element k is the value of the variable k + 1.
     values: Vec<bool>,
 }
 

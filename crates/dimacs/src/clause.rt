@@ -60,6 +60,7 @@ impl Clause {
     pub fn unit(alloc: Global, literal: Lit) -> Clause
         ensures { result ≡ literal ∷ [] }
     {
+        // an array must be full: the places past the length hold literals that are never read, here and below
         let places = [literal; INLINE];
         recall_literals(&places);
         Clause {

@@ -9,13 +9,15 @@ use crate::variable_table::VariableTable;
 use std::alloc::{AllocError, Global};
 use std::marker::Model;
 
-/// By how many bytes a buffer grows at once, whatever they are.
+/// By how many bytes a buffer grows at once, whatever they are. They are more than `AGREEMENT`, so one growth is room enough for two lines.
 static GROWTH: [u8; 4096] = [0; 4096];
 
 /// The lines of some clauses, one after the other. Several threads can make lines side by side, which a `CnfWriter` then sends.
 #[derive(Drop)]
 pub struct ClauseLines {
+    /// The bytes of the lines, and after them room whose bytes have no meaning.
     buffer: Vec<u8>,
+    /// The number of bytes of the lines.
     end: usize,
 }
 

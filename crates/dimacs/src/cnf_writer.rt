@@ -71,6 +71,7 @@ fn put_long_clause<W: Sink>(
         end = put_literal(*literal, table, buffer, start);
     }
     let start = make_room(buffer, end, sink)?;
+    // the room for a literal is more than these two bytes need
     Ok(put_bytes(b"0\n", buffer, start))
 }
 
@@ -147,7 +148,8 @@ fn put_each_line<W: Sink>(
     put_line(&same, table, buffer, kept, sink)
 }
 
-/// Writes the same two lines: at once, if the buffer has room.
+/// Writes the same two lines: at once, if the buffer has room. The place where the text ends in the buffer is returned, also by the other functions
+/// that take `at`.
 #[inline(always)]
 fn put_agreement<W: Sink>(
     first: Lit,
@@ -176,8 +178,11 @@ fn put_agreement<W: Sink>(
 /// A formula's text, which goes to a sink piece by piece: its header, and then its clauses' lines.
 #[derive(Drop)]
 pub struct CnfWriter {
+    /// The texts of the variables, from which lines are made.
     table: VariableTable,
+    /// Always `BUFFER` bytes.
     buffer: Vec<u8>,
+    /// The number of bytes of the buffer that have not gone to the sink yet.
     end: usize,
 }
 
@@ -204,7 +209,8 @@ impl CnfWriter {
         Ok(CnfWriter { table, buffer, end })
     }
 
-    /// Writes the lines of the next clauses. The writer keeps some of them.
+    /// Writes the lines of the next clauses. The writer keeps some of them. If the sink fails, the text cannot be continued: part of it may be in
+    /// the sink, and the buffer is overwritten in part.
     pub fn put<W: Sink>(&mut self, clauses: &[Clause], sink: &mut W) -> Result<(), Failed>
         ensures sent { OnOk result (IsSent (W.written sink.old) (W.written sink.new) self.new (self.old ++ flat_map clause_line clauses.now)) }
         ensures well { OnOk result (W.failures sink.new ≡ W.failures sink.old) }
@@ -265,6 +271,7 @@ impl CnfWriter {
         ensures failed { OnErr result (W.failures sink.new ≡ W.failures sink.old + 1) }
         ensures same { W.path sink.new ≡ W.path sink.old }
     {
+        // what the buffer keeps stands before the text
         write_whole(sink, &self.buffer.as_slice()[..self.end])?;
         self.end = 0;
         write_whole(sink, text)

@@ -52,6 +52,7 @@ fn copy_literals(alloc: Global, literals: &[Lit]) -> SmallVec<Lit, MAX_CUBE_LITE
     ensures items { result.items ≡ literals.now }
     ensures room { result.capacity ≡ 20 }
 {
+    // it fails for lack of memory alone, and a list of up to `MAX_CUBE_LITERALS` takes none
     SmallVec::from_slice(alloc, literals).unwrap()
 }
 

@@ -35,7 +35,7 @@ pub struct FirstFalse {
     pub clause: usize,
 }
 
-/// The first clause of which the assignment makes no literal true, counted from 0.
+/// The first clause of which the assignment makes no literal true, counted from 0. `FirstFalse` counts from 1.
 pub fn first_false(clauses: &[Clause], assignment: &Assignment) -> Option<usize>
     ensures { result ≡ position (λ clause. not (makes_some (value_of assignment.now) clause)) clauses.now }
 {

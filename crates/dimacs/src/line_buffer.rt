@@ -1,4 +1,6 @@
 //! Text written into a buffer of fixed size, from left to right.
+//!
+//! Each function writes from the place `at` on, for which its contract asks for room, and returns the place after the last byte it has written.
 ghost use Rattle.std.specs.Prelude.{◌≡◌, ◌+◌, ◌*◌, ◌/◌, ◌%◌, ◌<◌, ◌≤◌, [], ◌∷◌, ◌++◌, length, take, decimal};
 ghost use Rattle.dimacs.specs.CnfText.{header_line, clause_line, literal_text};
 
@@ -6,19 +8,21 @@ use crate::literal::Lit;
 use crate::variable_table::VariableTable;
 use itoa::Buffer;
 
-/// Maximum length of a literal's text, in bytes, with its sign and its space.
+/// Maximum length of a literal's text, in bytes, with its sign and its space. The number has up to eight digits here, which is what `put_number`
+/// writes; the largest variable has seven.
 pub(crate) const LITERAL: usize = 10;
 
 /// Literals of the longest clause that is short: its line is made without a look at the room for each literal.
 pub(crate) const SHORT: usize = 4;
 
-/// Maximum length of a short clause's line, in bytes.
+/// Maximum length of a short clause's line, in bytes. That is `SHORT` literals of `LITERAL` bytes, the `0` and the line feed.
 pub(crate) const SHORT_LINE: usize = 42;
 
-/// Maximum length of a header line, in bytes.
+/// Maximum length of a header line, in bytes. It is a bound with room left: `p cnf `, up to 10 and up to 20 digits, a space and a line feed are 38
+/// bytes.
 pub(crate) const HEADER: usize = 128;
 
-/// The two digits of each number below 100.
+/// The two digits of each number below 100. Those of the number n stand at the places 2n and 2n + 1.
 static PAIRS: [u8; 200] =
     *b"00010203040506070809101112131415161718192021222324252627282930313233343536373839404142434445464748495051525354555657585960616263646566676869707172737475767778798081828384858687888990919293949596979899";
 
@@ -67,7 +71,8 @@ fn put_short(number: u32, buffer: &mut [u8], at: usize) -> usize
     put_pair(number % 100, buffer, end)
 }
 
-/// Writes a number of up to eight digits.
+/// Writes a number of up to eight digits. What stands above the last four digits has no leading zeros; the last four are written as two pairs,
+/// zeros and all.
 pub(crate) fn put_number(number: u32, buffer: &mut [u8], at: usize) -> usize
     requires small { number < 100000000 }
     requires room { at + 8 ≤ length buffer.old }

@@ -9,7 +9,9 @@ use std::marker::Model;
 /// The literals of a clause that is stored somewhere, or of one that was made just now.
 #[derive(Drop)]
 enum Literals<'a> {
+    /// Those of a stored clause.
     Lent(&'a [Lit]),
+    /// Those of a clause that was made, as in the two variants below.
     One([Lit; 1]),
     Two([Lit; 2]),
     Three([Lit; 3]),

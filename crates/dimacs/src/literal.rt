@@ -6,7 +6,7 @@ ghost use Rattle.dimacs.specs.Literal.{is_literal, is_literal_up_to};
 
 use std::marker::Model;
 
-/// The largest number of a variable.
+/// The largest number of a variable, 2^22. So numbers of literals fit `i32`, and negation never overflows.
 pub const MAX_VARIABLE: u32 = 4_194_304;
 
 /// A variable or its negation, as DIMACS numbers it: the variable's number, or the negative of that.
@@ -97,6 +97,7 @@ impl Default for Lit {
     ghost is_default = { λ literal. literal ≡ pos 1 };
 
     fn default() -> Lit {
+        // 0 is no literal, so a default must be another; it fills places of arrays
         Lit { number: 1 }
     }
 }

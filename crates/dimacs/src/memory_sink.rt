@@ -9,6 +9,7 @@ use std::alloc::Global;
 #[derive(Drop)]
 pub struct MemorySink {
     bytes: Vec<u8>,
+    /// Seen by clauses alone.
     failures: FailureCount,
 }
 

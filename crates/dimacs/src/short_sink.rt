@@ -10,7 +10,8 @@ use std::alloc::Global;
 pub struct ShortSink {
     memory: MemorySink,
     max_per_call: usize,
-    /// The number of calls that succeed before the one that fails, or `u64::MAX` if none is to fail.
+    /// The number of calls that succeed before the one that fails, or `u64::MAX` if none is to fail. It falls with each call, also from `u64::MAX`,
+    /// which no run counts down.
     calls_before_failure: u64,
 }
 

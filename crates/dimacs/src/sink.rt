@@ -30,7 +30,7 @@ pub trait Sink {
 }
 
 /// Writes the whole slice, through however many calls that takes. If the sink fails, it has taken a prefix of the slice
-/// and has failed once more.
+/// and has failed once more. It ends, since a call that does not fail takes one byte or more.
 pub fn write_whole<S: Sink>(sink: &mut S, bytes: &[u8]) -> Result<(), Failed>
     ensures whole { OnOk result (S.written sink.new ≡ S.written sink.old ++ bytes.now) }
     ensures well { OnOk result (S.failures sink.new ≡ S.failures sink.old) }

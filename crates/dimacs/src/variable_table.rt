@@ -8,7 +8,8 @@ use crate::literal::Lit;
 use std::alloc::{AllocError, Global};
 use std::marker::Model;
 
-/// Maximum length of a variable's text in a table, in bytes, with its space.
+/// Maximum length of a variable's text in a table, in bytes, with its space. It is more than a listed variable needs, five digits and a space:
+/// `put` copies all of these bytes, whatever the length.
 const TEXT: usize = 8;
 
 /// The variables below this number have a text in the table.
@@ -17,7 +18,9 @@ const LISTED: u32 = 65_536;
 /// The text of a variable, with its space, in a place of fixed size.
 #[derive(Drop)]
 pub(crate) struct VariableText {
+    /// The text, and after it bytes of no meaning.
     bytes: [u8; TEXT],
+    /// The length of the text, with its space.
     length: u8,
 }
 
@@ -37,6 +40,7 @@ impl VariableText {
         requires { variable < 1000000 }
         ensures { result ≡ variable_text variable }
     {
+        // `put_number` asks for room for eight digits, and the space follows
         let mut line = [0; 16];
         let end = put_number(variable, &mut line, 0);
         line[end] = b' ';
@@ -99,6 +103,7 @@ fn put_unlisted(variable: u32, buffer: &mut [u8], at: usize) -> usize
 /// The texts of the variables from 0 up to some number.
 #[derive(Drop)]
 pub struct VariableTable {
+    /// By the number of the variable. So the first text is that of 0, which is no variable.
     texts: Vec<VariableText>,
 }
 
@@ -130,6 +135,7 @@ fn variable_texts(alloc: Global, count: u32) -> Result<Vec<VariableText>, AllocE
 impl VariableTable {
     /// A table for a text with this number of variables.
     pub(crate) fn of(alloc: Global, variables: u32) -> Result<VariableTable, AllocError> {
+        // one more than the variables, for the text of 0, and no more than `LISTED`
         let count = variables.min(LISTED - 1) + 1;
         Ok(VariableTable {
             texts: variable_texts(alloc, count)?,

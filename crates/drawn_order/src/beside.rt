@@ -9,7 +9,8 @@ use std::alloc::{AllocError, Global};
 /// The most sources of a read that are drawn beside the others. If it has more, none of them is drawn, and a sentence gives their number.
 const MOST_SOURCES: usize = 3;
 
-/// The most operations that a picture with those drawn beside the others has.
+/// From this number of drawn operations on nothing more is put beside them. The last box before may bring a few more: three sources, what
+/// overwrites each, and one write.
 const MOST_OPERATIONS: usize = 120;
 
 /// Puts the sources that the known order excludes beside the others, each with what overwrites it.
@@ -25,7 +26,8 @@ fn put_excluded(choice: &mut DrawnChoice, hidden: &HiddenSources) -> Result<(), 
     Ok(())
 }
 
-/// Returns whether a write that stands before the reader at its location is drawn.
+/// Returns whether a write that stands before the reader at its location is drawn. Such a write overwrites the initial value, so none has to be
+/// put beside the others for that.
 fn has_earlier_write(
     part: PartTrace<'_>,
     items: &[PictureItem<'_>],

@@ -38,7 +38,7 @@ pub(crate) fn reader_place(reader: &PictureItem<'_>) -> ReaderPlace {
     }
 }
 
-/// Returns whether the reader's line lets it read from the operation of this number.
+/// Returns whether the reader's line lets it read from the operation of this number. A final value has no line, and takes any write.
 fn allows(part: PartTrace<'_>, reader: &PictureItem<'_>, writer: OperationNumber) -> bool {
     match reader.origin() {
         Some(Origin::Initial) => false,
@@ -56,7 +56,7 @@ fn leaves(op: &Op, reader: &PictureItem<'_>) -> bool {
 }
 
 impl HiddenSources {
-    /// Notes a source that is not drawn.
+    /// Notes a source that is not drawn. `later` are the last writes of each process at the location before the reader.
     fn note(
         &mut self,
         part: PartTrace<'_>,

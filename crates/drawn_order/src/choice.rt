@@ -36,7 +36,8 @@ pub(crate) fn number_at(process: usize, k: usize) -> Option<OperationNumber> {
     }
 }
 
-/// The number of the operation of this name, if the trace has its process.
+/// The number of the operation of this name, if the trace has its process. Whether the process has an operation at this place is not looked
+/// at.
 pub(crate) fn number_of(trace: &Trace, name: &OpName) -> Option<OperationNumber> {
     let process = find_process(trace.processes(), name.process.as_bytes())?;
     match u16::try_from(process) {
@@ -85,7 +86,7 @@ impl DrawnChoice {
         Ok(choice)
     }
 
-    /// Adds an operation that the picture is of.
+    /// Adds an operation that the picture is of. One that is added twice counts twice in `count`.
     pub fn choose(&mut self, number: OperationNumber) -> Result<(), AllocError> {
         self.operations.push(DrawnOperation {
             number,

@@ -21,7 +21,8 @@ pub enum DerivedRule {
     LastWrite,
 }
 
-/// Of what an order follows: the reader has its value from the writer, and the other one writes the location too.
+/// Of what an order follows: the reader has its value from the writer, and the other one writes the location too. All three are numbers of
+/// boxes.
 #[derive(Clone, Copy)]
 pub struct DerivedBy {
     pub reader: usize,
@@ -72,14 +73,16 @@ pub struct Exclusion {
     pub reader: usize,
     pub writer: usize,
     pub why: WhyExcluded,
-    /// How many arrows were known then.
+    /// How many arrows were known then. What excludes the write is found among these, and `used_arrows` looks no further: later arrows may
+    /// rest on this exclusion.
     pub known: usize,
-    /// Whether the contradiction rests on it.
+    /// Whether the contradiction rests on it. False until `mark_used`.
     pub is_used: bool,
 }
 
 /// The part of the order of the boxes that is found, and what contradicts it.
 pub struct FoundOrder {
+    /// The order of the arrows up to the first that closes a cycle, and of initial and final values, which has no arrows.
     pub(crate) relation: Relation,
     pub arrows: Vec<OrderArrow>,
     pub exclusions: Vec<Exclusion>,
@@ -162,7 +165,8 @@ impl FoundOrder {
         Ok(())
     }
 
-    /// Marks the last arrow and a shortest way back from its end to its begin.
+    /// Marks the last arrow and a shortest way back from its end to its begin. So from each box of the cycle one marked arrow leads on, by
+    /// which `cycle_of` follows it.
     fn mark_cycle(&mut self, alloc: Global, start: usize, end: usize) -> Result<(), AllocError> {
         let Some(last) = self.arrows.len().checked_sub(1) else {
             return Ok(());
@@ -272,7 +276,7 @@ impl FoundOrder {
         false
     }
 
-    /// Adds the program order of the operations, which stand in the list in this order.
+    /// Adds the program order of the operations, which stand in the list in this order, process by process: neighbours suffice.
     fn add_program(&mut self, alloc: Global, items: &[PictureItem<'_>]) -> Result<(), AllocError> {
         for later in 1..items.len() {
             let first = &items[later - 1];
@@ -364,7 +368,7 @@ impl FoundOrder {
         Ok(())
     }
 
-    /// Notes that an initial value stands before the operations at its location, and these before the final one.
+    /// Notes that an initial value stands before the operations at its location, and these before the final one. No arrow is drawn of that.
     fn add_ends(&mut self, items: &[PictureItem<'_>]) {
         for first in 0..items.len() {
             for second in 0..items.len() {
@@ -411,7 +415,8 @@ fn is_known(items: &[PictureItem<'_>], part: PartTrace<'_>, from: usize, to: usi
     }
 }
 
-/// Returns whether the known order has the one before the other, of another process, and no box in between.
+/// Returns whether the known order has the one before the other, of another process, and no box in between. In a circle a box stands before
+/// itself, and so in between.
 fn is_nearest(items: &[PictureItem<'_>], part: PartTrace<'_>, from: usize, to: usize) -> bool {
     if !is_known(items, part, from, to) || is_one_column(items, from, to) {
         return false;
@@ -463,7 +468,8 @@ fn is_one_column(items: &[PictureItem<'_>], from: usize, to: usize) -> bool {
     }
 }
 
-/// The last box of the operation's process that is drawn, up to the operation itself.
+/// The last box of the operation's process that is drawn, up to the operation itself. By program order it stands before all that the
+/// operation stands before.
 fn last_up_to(items: &[PictureItem<'_>], name: &OpName) -> Option<usize> {
     let mut last = None;
     for number in 0..items.len() {
@@ -478,7 +484,8 @@ fn last_up_to(items: &[PictureItem<'_>], name: &OpName) -> Option<usize> {
     last
 }
 
-/// The first box of the operation's process that is drawn, from the operation itself on.
+/// The first box of the operation's process that is drawn, from the operation itself on. By program order it stands behind all that the
+/// operation stands behind.
 fn first_from(items: &[PictureItem<'_>], name: &OpName) -> Option<usize> {
     for number in 0..items.len() {
         let item = &items[number];

@@ -21,18 +21,20 @@ pub enum ItemKind {
 pub struct PictureItem<'t> {
     pub kind: ItemKind,
     pub location: &'t [u8],
-    /// The value that it reads.
+    /// The value that it reads: of a read, an update or a final value.
     pub read: Option<u64>,
-    /// The value that it leaves.
+    /// The value that it leaves: of a write, an update or an initial value.
     pub left: Option<u64>,
-    /// The number of its column. That of the initial values is 0.
+    /// The number of its column. That of the initial values is 0, that of a process one more than its number from 0, and that of the final
+    /// values the last.
     pub column: usize,
     /// The number of its row, counted from 0.
     pub row: usize,
-    /// The name of its process, if it is an operation.
+    /// The name of its process, if it is an operation; else no bytes.
     pub process: &'t [u8],
-    /// Its number, if it is an operation.
+    /// Its number, if it is an operation; else process 0 and place 0, which no operation has, as places count from 1.
     pub number: OperationNumber,
+    /// Its line, if it is an operation. `is_operation` goes by it.
     pub op: Option<&'t Op>,
 }
 

@@ -65,7 +65,7 @@ fn value_item<'t>(
     }
 }
 
-/// Adds the boxes of the process's operations that are drawn.
+/// Adds the boxes of the process's operations that are drawn, in program order, one below the other from row 0 on.
 fn add_process<'t>(
     items: &mut Vec<PictureItem<'t>>,
     process: &'t Process,
@@ -115,7 +115,7 @@ pub fn count_operations(items: &[PictureItem<'_>]) -> u64 {
     count
 }
 
-/// Adds the initial values of the locations that are used.
+/// Adds the initial values of the locations that are used. The operations have to be there already, as they say which locations these are.
 fn add_initial<'t>(items: &mut Vec<PictureItem<'t>>, trace: &'t Trace) -> Result<(), AllocError> {
     let mut row = 0;
     for entry in trace.initial() {
@@ -170,6 +170,7 @@ pub fn items_of_choice<'t>(
     }
     add_initial(&mut items, trace)?;
     let count = count_finals(items.as_slice(), trace);
+    // So the last final value stands in the last row; if there are more of them than rows, they begin in the first.
     let row = count_rows(items.as_slice()).saturating_sub(count);
     add_finals(&mut items, trace, row)?;
     Ok(items)
@@ -182,7 +183,7 @@ fn put_in_row<'t>(items: &mut Vec<PictureItem<'t>>, k: usize, number: OperationN
     }
 }
 
-/// Gives each operation the row of its place in the schedule.
+/// Gives each operation the row of its place in the schedule, from 0. A legal schedule names each once, so no two share a row.
 fn place_by_schedule<'t>(items: &mut Vec<PictureItem<'t>>, trace: &Trace, names: &[OpName]) {
     for row in 0..names.len() {
         if let Some(number) = number_of(trace, &names[row]) {

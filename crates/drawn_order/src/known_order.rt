@@ -35,7 +35,8 @@ impl<'t> PartTrace<'t> {
         }
     }
 
-    /// The number of operations of the process that stand before the reader.
+    /// The number of operations of the process that stand before the reader. They are its first ones, so the last of their places, counted from
+    /// 1, is their number.
     fn count_before(&self, reader: ReaderPlace, process: usize) -> usize {
         match (reader, u16::try_from(process)) {
             (ReaderPlace::At(number), Ok(process)) => {
@@ -62,7 +63,8 @@ impl<'t> PartTrace<'t> {
         number_at(process, last?)
     }
 
-    /// The last write at the location of each process, among the operations that stand before the reader.
+    /// The last write at the location of each process, among the operations that stand before the reader. These suffice for `overwriter`: what
+    /// stands before an earlier write of the process stands before its last one.
     pub(crate) fn last_writers(
         &self,
         alloc: Global,

@@ -50,7 +50,8 @@ impl Reached {
         }
     }
 
-    /// Follows the arrows of the boxes that are reached by exactly this number of steps.
+    /// Follows the arrows of the boxes that are reached by exactly this number of steps. With rising numbers each box is reached by a shortest
+    /// way, as none is reached again.
     fn follow(&mut self, arrows: &[OrderArrow], steps: usize) {
         for k in 0..arrows.len() {
             let arrow = &arrows[k];
@@ -69,7 +70,8 @@ pub(crate) fn first_of(arrows: &[OrderArrow], count: usize) -> &[OrderArrow] {
     }
 }
 
-/// The numbers of the arrows of a shortest way from one box to another, from its end to its begin; none if there is no way.
+/// The numbers of the arrows of a shortest way from one box to another, from its end to its begin; none if there is no way, or both are one
+/// box. `count` is the number of boxes, which bounds the steps of a shortest way.
 pub(crate) fn way_between(
     alloc: Global,
     arrows: &[OrderArrow],
@@ -103,6 +105,7 @@ pub(crate) fn way_between(
 pub fn cycle_of(alloc: Global, arrows: &[OrderArrow]) -> Result<Vec<usize>, AllocError> {
     let mut boxes = Vec::new(alloc);
     let mut at = None;
+    // The last marked arrow is the one that closed the cycle.
     for arrow in arrows {
         if arrow.is_marked {
             at = Some(arrow.to);

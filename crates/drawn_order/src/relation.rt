@@ -19,7 +19,8 @@ impl Relation {
         Ok(Relation { size, cells })
     }
 
-    /// The place of these two in the table.
+    /// The place of these two in the table, row by row. Both have to be numbers below `size`: a second one past it would be a cell of another
+    /// row. Of such numbers nothing wraps, as the table has room for the square of its size.
     fn cell(&self, first: usize, second: usize) -> usize {
         first.wrapping_mul(self.size).wrapping_add(second)
     }
@@ -49,7 +50,8 @@ impl Relation {
         }
     }
 
-    /// Notes that the first stands before the second, and what follows of it.
+    /// Notes that the first stands before the second, and what follows of it: all that stand before the first, and itself, stand before the
+    /// second and all behind it.
     pub(crate) fn order(&mut self, first: usize, second: usize) {
         for earlier in 0..self.size {
             if earlier == first || self.holds(earlier, first) {

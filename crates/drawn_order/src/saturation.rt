@@ -12,7 +12,7 @@ use crate::used_arrows::mark_used;
 use std::alloc::{AllocError, Global};
 use trace_semantics::trace::Trace;
 
-/// How often all reads are looked at.
+/// How often all reads are looked at, at most, so that the search ends in any case. Past that less is found, and nothing wrong.
 const ROUNDS: usize = 100;
 
 /// The boxes, and the trace that they are of.
@@ -37,7 +37,7 @@ impl Drop for DrawnPart<'_> {
     }
 }
 
-/// Where a read may have its value from.
+/// The boxes that a read may have its value from: none, only the one of this number, or several.
 #[derive(Clone, Copy)]
 enum PossibleSources {
     Nowhere,
@@ -45,7 +45,8 @@ enum PossibleSources {
     Several,
 }
 
-/// The boxes of the trace's operations that are chosen, and of those that are drawn beside them.
+/// The boxes of the trace's operations that are chosen, and of those that are drawn beside them. They are made twice: what is put beside is
+/// found by the boxes of those that are chosen, and rows and numbers then change.
 fn items_beside<'t>(
     alloc: Global,
     part: PartTrace<'t>,
@@ -81,7 +82,7 @@ impl<'t> DrawnPart<'t> {
         })
     }
 
-    /// Returns whether an operation that is not drawn may give the box its value.
+    /// Returns whether an operation that is not drawn may give the box its value. Then nothing is said of its source.
     pub(crate) fn is_open(&self, number: usize) -> bool {
         match self.is_open.get(number) {
             Some(is_open) => *is_open,
@@ -110,7 +111,8 @@ impl<'t> DrawnPart<'t> {
         None
     }
 
-    /// The other box that has its value from the writer, if each of the two needs a source of its own.
+    /// The other box that has its value from the writer, if that one needs a source of its own. That the reader does too is for the caller to
+    /// look at.
     fn taker(&self, found: &FoundOrder, writer: usize, reader: usize) -> Option<usize> {
         for other in 0..self.items.len() {
             if other != reader
@@ -123,7 +125,8 @@ impl<'t> DrawnPart<'t> {
         None
     }
 
-    /// Returns why the reader cannot have its value from the writer, if the order says so.
+    /// Returns why the reader cannot have its value from the writer, if the order says so. Of several reasons it is the first that
+    /// is asked for here.
     pub(crate) fn why_excluded(
         &self,
         found: &FoundOrder,
@@ -145,7 +148,8 @@ impl<'t> DrawnPart<'t> {
         None
     }
 
-    /// The sources from which the reader of this number may have its value. Those that it cannot have it from join the list.
+    /// The sources from which the reader of this number may have its value. Those that it cannot have it from join the list, with the number
+    /// of arrows that are known now.
     fn possible_sources(
         &self,
         found: &FoundOrder,
@@ -176,7 +180,8 @@ impl<'t> DrawnPart<'t> {
         Ok(sources)
     }
 
-    /// Notes on which side of the reader and its source the other write has to stand.
+    /// Notes on which side of the reader and its source the other write has to stand, if one side is ruled out. `is_last` says that the reader
+    /// is a final value: the source is then the last write, and each other one stands before it.
     fn derive_of(
         &self,
         alloc: Global,
@@ -248,7 +253,8 @@ impl<'t> DrawnPart<'t> {
         Ok(all)
     }
 
-    /// Notes the sources that are the only ones by the order so far, and the boxes that have none.
+    /// Notes the sources that are the only ones by the order so far, and the boxes that have none. Exclusions are kept of these alone: those of
+    /// a reader that has several sources left are found again in the next round.
     fn note_sources(&self, alloc: Global, found: &mut FoundOrder) -> Result<(), AllocError> {
         let mut exclusions = Vec::new(alloc);
         let all = self.all_possible_sources(alloc, found, &mut exclusions)?;
@@ -259,6 +265,7 @@ impl<'t> DrawnPart<'t> {
                 _ => {}
             }
         }
+        // A box whose source was known before this round was not looked at, so none of its exclusions is kept twice.
         for exclusion in &exclusions {
             let reader = exclusion.reader;
             if found.source_of(reader).is_some() || found.is_lacking(reader) {
@@ -278,7 +285,8 @@ impl<'t> DrawnPart<'t> {
         Ok(())
     }
 
-    /// Goes on until nothing more follows, or the order is contradicted.
+    /// Goes on until nothing more follows, or the order is contradicted. A round that leaves the number of arrows as it was has found nothing,
+    /// and so would the next.
     fn go_on(&self, alloc: Global, found: &mut FoundOrder) -> Result<(), AllocError> {
         for _ in 0..ROUNDS {
             let known = found.arrows.len();

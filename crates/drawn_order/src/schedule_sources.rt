@@ -5,7 +5,8 @@ use crate::item::PictureItem;
 use crate::known_order::PartTrace;
 use std::alloc::{AllocError, Global};
 
-/// Returns whether the box stands before the other one: initial values first, final ones last.
+/// Returns whether the box stands before the other one: initial values first, final ones last. Rows say it of operations alone, as initial
+/// values have the same rows as the first operations.
 fn stands_before(first: &PictureItem<'_>, second: &PictureItem<'_>) -> bool {
     if first.is_initial() || second.is_final() {
         return true;
@@ -38,7 +39,8 @@ fn later_of(items: &[PictureItem<'_>], first: usize, second: usize) -> usize {
     }
 }
 
-/// Gives what a legal schedule says of the boxes, whose rows are its places.
+/// Gives what a legal schedule says of the boxes, whose rows are its places. Its sources are not `note_source`d: nothing is derived of them,
+/// so a schedule has no sentences.
 pub fn order_of_schedule(
     alloc: Global,
     part: PartTrace<'_>,

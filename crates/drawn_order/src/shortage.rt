@@ -98,7 +98,8 @@ fn can_give(part: &DrawnPart<'_>, found: &FoundOrder, needing: &[bool], writer: 
     false
 }
 
-/// The shortage of the boxes that need what this one needs, if there is one.
+/// The shortage of the boxes that need what this one needs, if there is one. Each source serves one of them, so fewer sources than boxes are a
+/// contradiction, whichever source each takes.
 fn shortage_of(
     alloc: Global,
     part: &DrawnPart<'_>,
@@ -122,7 +123,7 @@ fn shortage_of(
     }
 }
 
-/// Returns whether a box before this one needs the same.
+/// Returns whether a box before this one needs the same, and so was looked at with it already.
 fn comes_after_its_like(items: &[PictureItem<'_>], number: usize, item: &PictureItem<'_>) -> bool {
     for earlier in 0..items.len().min(number) {
         if needs_the_same(&items[earlier], item) {

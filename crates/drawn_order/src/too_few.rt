@@ -29,7 +29,8 @@ impl NeededValue<'_> {
     }
 }
 
-/// Returns whether more operations need a source of this value than there are sources. A final value needs one too.
+/// Returns whether more operations need a source of this value than there are sources. A final value needs one too: its source is the last
+/// write, which no update reads.
 fn is_short(trace: &Trace, placed: NeededValue<'_>) -> bool {
     let mut needed: u64 = 0;
     let mut given: u64 = 0;

@@ -18,7 +18,8 @@ fn use_if_marked(found: &mut FoundOrder, number: usize) {
     }
 }
 
-/// Marks the arrows of a shortest way between two boxes along the first `known` arrows.
+/// Marks the arrows of a shortest way between two boxes along the first `known` arrows. There is none if the order of an initial or a final
+/// value alone has the one before the other; then nothing is marked.
 fn use_way(
     alloc: Global,
     found: &mut FoundOrder,
@@ -115,7 +116,8 @@ fn use_of_arrow(alloc: Global, found: &mut FoundOrder, number: usize) -> Result<
     }
 }
 
-/// Marks all on which the contradiction rests, from its last arrow to its first.
+/// Marks all on which the contradiction rests, from its last arrow to its first: what an arrow rests on stands before it in the list, so one
+/// pass backward reaches all of it, and a pass forward would not.
 pub(crate) fn mark_used(alloc: Global, found: &mut FoundOrder) -> Result<(), AllocError> {
     for number in 0..found.arrows.len() {
         use_if_marked(found, number);

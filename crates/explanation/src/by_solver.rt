@@ -22,6 +22,7 @@ fn short(number: usize) -> u32 {
 /// not by counting.
 fn encoding_of<'a>(clauses: &TraceClauses) -> EncodingHints<'a> {
     let operations = short(clauses.layout().operations());
+    // The solver counts clauses from 1, and places count from 0. A wrong hint would only spoil the derivation, which is checked.
     let first = short(clauses.transitivity_start()).saturating_add(1);
     EncodingHints::with_order(operations, first)
 }

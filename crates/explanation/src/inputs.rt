@@ -14,6 +14,7 @@ use verdict_notes::ShownPlaces;
 /// A trace, and the places under which its operations are named.
 pub(crate) struct PlacedTrace {
     pub trace: Trace,
+    /// Those in the file, or those in the whole that comments above the operations of a part give.
     pub places: ShownPlaces,
 }
 
@@ -49,7 +50,7 @@ pub(crate) fn schedule_of(alloc: Global, text: &NamedText<'_>) -> Option<Schedul
     }
 }
 
-/// Returns whether the report of a survey is that on a certificate of reasons.
+/// Returns whether the report of a survey is that on a certificate of reasons, whose first line is `INCONSISTENT operations=N reasons=M`.
 pub(crate) fn is_of_reasons(report: &[u8]) -> bool {
     let Some((first, _rest)) = cut_line(report) else {
         return false;
@@ -60,7 +61,8 @@ pub(crate) fn is_of_reasons(report: &[u8]) -> bool {
     }
 }
 
-/// The names of the core that the report of a survey has, if it has one.
+/// The names of the core that the report of a survey has, if it has one: they stand behind its first line. A report on a certificate of reasons
+/// begins alike, so `is_of_reasons` must be asked before.
 pub(crate) fn core_of_report(alloc: Global, report: &[u8]) -> Option<Schedule> {
     let (first, rest) = cut_line(report)?;
     if !first.starts_with(b"INCONSISTENT operations=") {

@@ -105,7 +105,7 @@ fn explain_contradiction(
 }
 
 /// Notes what rules out all schedules without a search: reads and final values of values that nothing gives, or more updates than
-/// sources. The answer is whether there is something.
+/// sources. The answer is whether there is something. If there is, callers look for no other reason.
 fn explain_at_once(
     alloc: Global,
     notes: &mut Notes,
@@ -124,7 +124,7 @@ fn note_refused(notes: &mut Notes) {
 }
 
 /// Notes a derivation of the contradiction in the trace in sentences, if a short one is found that the checker accepts. The answer is
-/// whether it was.
+/// whether it was. After `false` there may yet be notes: on what a long derivation rests, or that it was refused.
 fn explain_derived(
     alloc: Global,
     notes: &mut Notes,
@@ -162,7 +162,8 @@ fn explain_inconsistent(
     explain_by_survey(alloc, notes, trace, places, &surveyor)
 }
 
-/// Notes what is asked of a schedule if there is one, or that there is nothing to put in order.
+/// Notes what is asked of a schedule if there is one, or that there is nothing to put in order. The first note stands also if the trace is not at
+/// hand.
 fn explain_consistent(alloc: Global, notes: &mut Notes, trace: &NamedText<'_>) {
     if let Some(trace) = trace_of(alloc, trace) {
         if is_without_operation(&trace) {
@@ -217,7 +218,7 @@ fn explain_open(
     explain_undecided(alloc, notes, &placed.trace, &placed.places, effort, report)
 }
 
-/// Notes how a certificate gets shorter that is too long to be read.
+/// Notes how a certificate gets shorter that is too long to be read: longer than what `recheck` reads of a file.
 fn explain_length(notes: &mut Notes, length: Option<u64>) {
     if let Some(length) = length {
         explain_certificate_length(notes, length, MAX_INPUT_BYTES as u64);
@@ -251,7 +252,8 @@ fn explain_if_short(
     explain_reasons(alloc, notes, trace, text)
 }
 
-/// Notes what an accepted certificate says.
+/// Notes what an accepted certificate says. Of a part nothing more is said: what follows looks at the whole trace, and the certificate is not
+/// one of that.
 fn explain_rechecked(
     alloc: Global,
     notes: &mut Notes,
@@ -303,6 +305,7 @@ fn explain_finding(
     trace: &Trace,
     finding: &Finding,
 ) -> Result<bool, AllocError> {
+    // A core or a schedule has no lines, and is not what the report is on.
     match finding {
         Finding::Reasons(text) => explain_if_short(alloc, notes, trace, text.as_slice()),
         Finding::Core(_names) => Ok(false),
@@ -345,7 +348,8 @@ fn explain_reasoned(
     Ok(())
 }
 
-/// Notes why the trace has no legal schedule, of which a survey made the report.
+/// Notes why the trace has no legal schedule, of which a survey made the report. That says how it was found: by reasons, by a core whose names
+/// it has, or else by a search of the whole.
 fn explain_survey_report(
     alloc: Global,
     notes: &mut Notes,

@@ -17,7 +17,7 @@ use crate::walk::{OrderStep, steps_of};
 use std::alloc::{AllocError, Global};
 use trace_semantics::trace::Trace;
 
-/// Returns the number of rows of each process: one more than its operations.
+/// Returns the number of rows of each process: one more than its operations. Places count from 1, so row 0 is of no operation.
 fn row_counts(alloc: Global, trace: &Trace) -> Result<Vec<usize>, AllocError>
     requires trace { IsTrace trace.now }
     ensures { IfOk result (λ counts. counts.items ≡ map (λ (p : Listed). length p.operations + 1) trace.now.processes) }
@@ -30,7 +30,9 @@ fn row_counts(alloc: Global, trace: &Trace) -> Result<Vec<usize>, AllocError>
     Ok(counts)
 }
 
-/// Raises rows until no step raises any, when they say all that is forced. Once along a walk is enough unless steps are cyclic.
+/// Raises rows until no step raises any, when they say all that is forced. Once along a walk is enough unless steps are cyclic. `raise_all` alone
+/// goes along every step, so it alone decides the end. Each further round has raised a place, and no place rises above the last of its process, so
+/// the rounds end.
 fn close(
     rows: &mut OrderRows,
     trace: &Trace,

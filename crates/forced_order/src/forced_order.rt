@@ -7,8 +7,8 @@ use std::alloc::{AllocError, Global};
 use std::marker::Model;
 use trace_semantics::trace::Trace;
 
-/// For each operation and each process, the last place there that is forced to stand before the operation: by program order, by what the trace says in `before` lines and
-/// times, and by steps of these one after the other. What is read forces nothing here.
+/// For each operation and each process, the last place there that is forced to stand before the operation: by program order, by what the trace says
+/// in `before` lines and times, and by steps of these one after the other. What is read forces nothing here.
 #[derive(Drop)]
 pub struct ForcedOrder {
     rows: OrderRows,
@@ -43,7 +43,7 @@ impl ForcedOrder {
         self.rows.last_before(n, process)
     }
 
-    /// Returns whether the first is known to stand before the second.
+    /// Returns whether the first is known to stand before the second. The first must be an operation: a place 0 would stand before all.
     pub fn stands(&self, first: OperationNumber, second: OperationNumber) -> bool
         ensures { result ≡ stands_by self.now first second }
     {

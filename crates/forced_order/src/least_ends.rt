@@ -11,7 +11,8 @@ use std::marker::Model;
 use trace_semantics::operation::{Op, Span};
 use trace_semantics::trace::Trace;
 
-/// When it had ended; without times the latest time that can be written.
+/// When it had ended; without times the latest time that can be written. No start is above that, so an operation without times never counts as
+/// ended.
 fn end_of(span: Option<Span>) -> u64
     ensures { result ≡ times.end_of span }
 {
@@ -31,6 +32,7 @@ fn lower_of(a: u64, b: u64) -> u64
 /// Of the operations of a process the least end of the last one, of the last two, and so on.
 #[derive(Drop)]
 pub struct LeastEnds {
+    /// Element i is the least end of the last i + 1 operations, so no element is above an earlier one.
     ends: Vec<u64>,
 }
 
@@ -54,6 +56,7 @@ impl LeastEnds {
         let mut ends = Vec::with_capacity(alloc, ops.len())?;
         let mut least = u64::MAX;
         for i in 0..ops.len() {
+            // from the last operation to the first; places count from 1
             least = lower_of(end_of(span_in(ops, ops.len() - i)), least);
             ends.push(least)?;
         }
@@ -67,7 +70,8 @@ impl LeastEnds {
         last_of(self.ends.as_slice(), span)
     }
 
-    /// Returns the least end of this many of the last operations. No property rests on it.
+    /// Returns the least end of this many of the last operations. No property rests on it. If that is no number of operations of the process, as 0
+    /// when none is left, the answer is `u64::MAX`, below no start.
     pub fn of_last(&self, count: usize) -> u64 {
         if 0 < count && count <= self.ends.len() {
             self.ends[count - 1]
@@ -85,7 +89,8 @@ fn count_from(ends: &[u64], start: u64) -> usize
     ends.partition_point(|end| start <= *end)
 }
 
-/// Returns the place of the last operation that had ended before the span; 0 if none had.
+/// Returns the place of the last operation that had ended before the span; 0 if none had. None of the last `count` operations had ended. The one
+/// before these had, since it alone makes the next least end smaller.
 fn last_of(ends: &[u64], span: Span) -> usize
     ensures { (ops : List Listed) → times.AreLeastEnds ops ends.now → times.IsLastEnded ops span result }
 {

@@ -10,7 +10,8 @@ use trace_semantics::operation::OpName;
 use trace_semantics::process_order::order_of;
 use trace_semantics::trace::{Process, Trace};
 
-/// Returns the operation by numbers.
+/// Returns the operation by numbers. A process that the trace lacks would get the number after the last one, but pairs of a trace name operations
+/// of it alone.
 fn number(processes: &[Process], name: &OpName) -> OperationNumber
     requires few { length processes.now ≤ 64 }
     ensures { result ≡ numbered processes.now name.now }

@@ -88,7 +88,8 @@ fn operation_of(process: usize, place: usize) -> OperationNumber
     }
 }
 
-/// Raises the row of n from the last operation of a process that had ended before n began.
+/// Raises the row of n from the last operation of a process that had ended before n began. The earlier ones of that process need no step of their
+/// own: they stand before the last one, whose row brings theirs.
 fn raise_after(
     rows: &mut OrderRows,
     trace: &Trace,
@@ -215,6 +216,7 @@ fn raise_process(rows: &mut OrderRows, trace: &Trace, process: u16) -> bool
 {
     let count = count_of(trace, process as usize);
     let mut rose = false;
+    // the last place, which is `count`, has none after it
     for place in 1..count {
         let n = OperationNumber {
             process,
@@ -233,6 +235,7 @@ fn raise_processes(rows: &mut OrderRows, trace: &Trace) -> bool
 {
     let mut rose = false;
     for k in 0..trace.processes().len() {
+        // a trace has at most 64 processes, so the cast loses nothing, here and in `raise_times`
         let more = raise_process(rows, trace, k as u16);
         rose = either(rose, more);
     }

@@ -7,7 +7,7 @@ use std::alloc::{AllocError, Global};
 use std::marker::Model;
 use trace_semantics::limits::MAX_PROCESSES;
 
-/// Returns whether one of the two holds.
+/// Returns whether one of the two holds. Both are computed before the call, so a pass over steps leaves none out once a row has risen.
 pub fn either(first: bool, second: bool) -> bool
     ensures { result ≡ (first || second) }
 {
@@ -17,6 +17,7 @@ pub fn either(first: bool, second: bool) -> bool
 /// What is known of one operation: for each process the last place there that stands before it, or 0.
 #[derive(Drop)]
 pub struct OperationRow {
+    /// One place for each of 64 processes, by the number of the process from 0, also if the trace has fewer. Places count from 1.
     places: Vec<u32>,
 }
 
@@ -57,7 +58,8 @@ impl OperationRow {
         }
     }
 
-    /// Raises the place of the process to this one, and returns whether it was lower.
+    /// Raises the place of the process to this one, and returns whether it was lower. A place that is no higher changes nothing, nor does a process
+    /// for which the row has no place.
     fn raise(&mut self, process: u16, place: u32) -> bool
         ensures raised { IsRowRaised self.old self.new process place }
         ensures less { result ≡ true → row_room self.new < row_room self.old }
@@ -78,6 +80,7 @@ impl OperationRow {
 /// The rows of one process by place.
 #[derive(Drop)]
 pub struct ProcessRows {
+    /// Row k is that of the operation at place k. Row 0 is of no operation, since places count from 1.
     rows: Vec<OperationRow>,
 }
 
@@ -138,6 +141,7 @@ impl ProcessRows {
 /// The rows of all processes of a trace.
 #[derive(Drop)]
 pub struct OrderRows {
+    /// By the number of the process, from 0.
     processes: Vec<ProcessRows>,
 }
 
@@ -159,7 +163,7 @@ impl OrderRows {
     ghost use Rattle.forced_order.specs.Rows.{HasRow, last_before};
     ghost use Rattle.forced_order.specs.declared.numbered.OperationNumber.{OperationNumber as Named};
 
-    /// Returns rows of zeros: for each process the number that is given.
+    /// Returns rows of zeros: for each process the number that is given. That is one more than its operations, since row 0 is of none.
     pub fn zeros(alloc: Global, counts: &[usize]) -> Result<OrderRows, AllocError>
         ensures zero { IfOk result (λ rows. (n : Named) (q : ℕ) → last_before rows n q ≡ 0) }
         ensures rows { IfOk result (λ rows. (j k count : ℕ) → slice_get counts.now j ≡ Some count → k < count → HasRow rows (record { process = j; place = k })) }
@@ -197,7 +201,8 @@ impl OrderRows {
         }
     }
 
-    /// Raises the row of the second operation to what follows if the first stands before it, and returns whether it was lower.
+    /// Raises the row of the second operation to what follows if the first stands before it, and returns whether it was lower. The row of the first
+    /// says what stands before it and not the first itself, so that one's place is raised apart. 64 is the length of each row.
     pub fn raise_from(&mut self, first: OperationNumber, second: OperationNumber) -> bool
         ensures forced { (t : TraceValue) → IsForcedByNumber t first second → AreForced t self.old → AreForced t self.new }
         ensures rise { IsRise result self.old self.new }

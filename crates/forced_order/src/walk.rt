@@ -22,11 +22,13 @@ pub enum OrderStep {
 /// The state of the walk in one process.
 #[derive(Drop)]
 struct Front {
-    /// For each place, the number of pairs that put an operation before it from which the walk has not yet gone on.
+    /// For each place, the number of pairs that put an operation before it from which the walk has not yet gone on. Element 0 is of no operation,
+    /// since places count from 1.
     waits: Vec<u32>,
     /// The last place that was visited, or 0.
     visited: u32,
-    /// The number of the next pair from an operation of this process.
+    /// The number of the next pair from an operation of this process. A trace keeps its pairs in the order of their first operations, so those from
+    /// one process stand side by side, rising by place.
     next_pair: usize,
 }
 
@@ -45,6 +47,7 @@ impl Front {
             .saturating_sub(self.visited as usize)
     }
 
+    /// Notes one more pair that puts an operation before this place.
     fn add_wait(&mut self, place: u32) {
         let k = place as usize;
         if k < self.waits.len() {
@@ -52,6 +55,7 @@ impl Front {
         }
     }
 
+    /// Notes that the walk has gone on from the first operation of such a pair.
     fn remove_wait(&mut self, place: u32) {
         let k = place as usize;
         if k < self.waits.len() {
@@ -122,6 +126,7 @@ impl<'a> FrontWalk<'a> {
         }
     }
 
+    /// Returns whether the process has a next operation that waits neither for a pair nor for times; or, if `forced`, whether it has a next one.
     fn may_visit(&self, process: usize, forced: bool) -> bool {
         process < self.fronts.len()
             && self.fronts[process].may_visit(forced)
@@ -135,12 +140,14 @@ impl<'a> FrontWalk<'a> {
             place = self.fronts[process].visited.saturating_add(1);
         }
         OperationNumber {
+            // a trace has at most 64 processes, so the mask changes nothing: it shows that the cast loses nothing
             process: (process & 0xffff) as u16,
             place,
         }
     }
 
-    /// Returns whether no operation is left that had ended before the next one of the process began.
+    /// Returns whether no operation is left that had ended before the next one of the process began. Its own end is among those that are left, but
+    /// is not below its start, so it does not wait for itself.
     fn is_due(&self, process: usize) -> bool {
         match span_by_number(self.trace, self.next_of(process)) {
             Some(span) => span.start <= self.first_end(),
@@ -148,7 +155,7 @@ impl<'a> FrontWalk<'a> {
         }
     }
 
-    /// Returns the least end of the operations that are left.
+    /// Returns the least end of the operations that are left. If none of them has times, that is `u64::MAX`, below no start.
     fn first_end(&self) -> u64 {
         let mut least = u64::MAX;
         for k in 0..self.fronts.len() {
@@ -168,7 +175,8 @@ impl<'a> FrontWalk<'a> {
         next
     }
 
-    /// Returns the next pair, if it is one from this operation.
+    /// Returns the next pair, if it is one from this operation. It relies on the order of the pairs: a pair that stood out of order would not be
+    /// taken, and its second operation would wait until `break_cycle` visits it.
     fn take_pair(&mut self, n: OperationNumber) -> Option<usize> {
         let pairs = self.pairs;
         let process = n.process as usize;
@@ -182,7 +190,8 @@ impl<'a> FrontWalk<'a> {
         None
     }
 
-    /// Visits the next operation of the process, and makes the steps of times to it and the other steps from it.
+    /// Visits the next operation of the process, and makes the steps of times to it and the other steps from it. The steps of times come first,
+    /// since the other steps hand on the row of the operation, which must be raised by then.
     fn visit(&mut self, process: usize) -> Result<(), AllocError> {
         let pairs = self.pairs;
         let n = self.advance(process);
@@ -202,7 +211,8 @@ impl<'a> FrontWalk<'a> {
         Ok(())
     }
 
-    /// Visits operations of each process as long as they wait for no other, and returns whether there was one.
+    /// Visits operations of each process as long as they wait for no other, and returns whether there was one. Each visit makes a step, so the
+    /// number of steps shows whether there was one. The inner loop's bound is above the number of operations of any trace: `may_visit` ends it.
     fn go_on(&mut self) -> Result<bool, AllocError> {
         let before = self.steps.len();
         for process in 0..self.fronts.len() {
@@ -216,7 +226,8 @@ impl<'a> FrontWalk<'a> {
         Ok(self.steps.len() > before)
     }
 
-    /// Visits an operation that waits for others, as all that are left do, and returns whether there is one.
+    /// Visits an operation that waits for others, as all that are left do, and returns whether there is one. That happens only if before pairs,
+    /// times and program order are cyclic. Any of them would do; the first process that has one is taken.
     fn break_cycle(&mut self) -> Result<bool, AllocError> {
         for process in 0..self.fronts.len() {
             if self.may_visit(process, true) {
@@ -228,7 +239,7 @@ impl<'a> FrontWalk<'a> {
     }
 }
 
-/// Returns the steps of a walk over all operations.
+/// Returns the steps of a walk over all operations. Each round of the loop but the last visits an operation, so its bound is never reached.
 pub fn steps_of<'a>(
     alloc: Global,
     trace: &'a Trace,

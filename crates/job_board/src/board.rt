@@ -14,7 +14,9 @@ use cube_jobs::{Job, Settled};
 /// channels, and all seats share it.
 #[derive(Drop)]
 pub struct Board {
+    /// The number of workers' seats, from 1 to 8.
     pub(crate) workers: u32,
+    /// The number of leaves of the tree, from 1 to 1,024: the room of the result channel, and the first stop ticket.
     pub(crate) cubes: u32,
     pub(crate) job_sender: RuledSender<Job, ChannelView<Job>, JobRule>,
     pub(crate) job_receiver: RuledReceiver<Job, ChannelView<Job>, JobRule>,

@@ -51,6 +51,7 @@ impl Board {
             ..
         } = collector;
         let (taken, given) = self.join_all(rt, workers, &mut jobs, &mut results);
+        // After all workers are joined: what the last receives show is of the joined lists, and says nothing while one is missing.
         self.end_jobs(rt, &mut jobs);
         self.end_results(rt, &mut results);
         Account {
@@ -104,7 +105,7 @@ impl Board {
         self.result_sender.absorb::<WorkerJoined>(results, given);
     }
 
-    /// The last receive on the job channel, after which the dealer's pass is spent.
+    /// The last receive on the job channel, after which the dealer's pass is spent. It is made for what its contract shows, and an item that comes is dropped.
     fn end_jobs<R: Wait>(&self, rt: &R, jobs: &mut JobPass)
         requires jobs { IsSeatAt (sends_on self.now.job_sender) jobs.old }
         requires knows { (put : List Job) × (made : ℕ) × (joined : List (List Job)) × (view jobs.old ≡ Single put made joined) }
@@ -113,7 +114,7 @@ impl Board {
         let _last = self.job_receiver.try_recv_as::<LastTake, R>(rt, jobs);
     }
 
-    /// The last receive on the result channel, after which the collector's pass is spent.
+    /// The last receive on the result channel, after which the collector's pass is spent. It is made for what its contract shows, as that of jobs is.
     fn end_results<R: Wait>(&self, rt: &R, results: &mut ResultPass)
         requires results { IsSeatAt (sends_on self.now.result_sender) results.old }
         requires knows { (got : List Settled) × (made : ℕ) × (joined : List (List Settled)) × (view results.old ≡ Single got made joined) }

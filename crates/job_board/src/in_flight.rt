@@ -23,9 +23,9 @@ pub enum InFlight {
     Empty,
     /// A job that it has taken and not yet given a result for.
     Holds(HeldJob),
-    /// A stop ticket, with which it ends.
+    /// A stop ticket, with which it ends. It is held, since what a seat took is what it settled and then what it holds.
     Stopped(Job),
-    /// Nothing, and its channel ended.
+    /// Nothing, and its channel ended. The board holds both ends of its channels, so this is not seen while it is shared.
     Cut,
 }
 

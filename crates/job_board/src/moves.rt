@@ -44,6 +44,7 @@ impl Board {
         ensures back { IfErr result (λ back. (back ≡ job) × (put_by seat.new ≡ put_by seat.old)) }
     {
         let counts = job.ticket() < seat.cubes;
+        // Before the send, after which nothing may keep the count from being right.
         let next = added(rt, seat.put, 1);
         match self
             .job_sender
@@ -70,6 +71,7 @@ impl Board {
         ensures done { OnErr result (is_done seat.new.hand ≡ true) }
         ensures stays { OnOk result (is_done seat.old.hand ≡ false) }
     {
+        // A worker takes one stop ticket and no other: there is one for each, and another worker would wait for ever for that of its own.
         if seat.hand.is_done() {
             return Err(Ended);
         }
@@ -106,6 +108,7 @@ impl Board {
         ensures given { OnOk result ((given_by seat.new ≡ given_by seat.old ++ settled ∷ []) × (ticket_in seat.old.hand ≡ Some settled.ticket) × (held_in seat.old.hand ≡ of_result settled ∷ []) × (seat.new.hand ≡ Empty)) }
         ensures back { IfErr result (λ back. (back ≡ settled) × (given_by seat.new ≡ given_by seat.old) × (seat.new.hand ≡ seat.old.hand)) }
     {
+        // The cube is compared too: the contracts say that each result has the cube of the job that was put under its ticket.
         if !seat.hand.is_settled_by(&settled) {
             return Err(settled);
         }

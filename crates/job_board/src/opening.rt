@@ -75,7 +75,7 @@ impl Board {
         Ok((board, jobs, results))
     }
 
-    /// All workers' seats, cut off both first passes.
+    /// All workers' seats, by rising number, cut off both first passes, which the dealer and the collector then have.
     fn cut_all(
         &self,
         alloc: Global,

@@ -21,8 +21,10 @@ pub(crate) type ResultPass = Pass<Settled, ChannelView<Settled>>;
 /// The seat of who puts jobs. Their tickets rise.
 #[derive(Drop)]
 pub struct DealerSeat {
+    /// The number of cubes of its board: a ticket below it is of a job, and any other one is a stop ticket.
     pub(crate) cubes: u32,
     pub(crate) jobs: JobPass,
+    /// The number of jobs that it has put, stop tickets left out.
     pub(crate) put: u32,
     ghost counted: { put ≡ length (below cubes (of_jobs (list_in (view jobs)))) },
     ghost rising: { Rise (of_jobs (list_in (view jobs))) },
@@ -32,11 +34,14 @@ pub struct DealerSeat {
 /// shorter; where it is one shorter, the last one is in flight.
 #[derive(Drop)]
 pub struct WorkerSeat {
+    /// From 0 on, in the order in which the seats were cut. The board is closed with the seats in this order.
     pub(crate) number: u32,
     pub(crate) cubes: u32,
     pub(crate) jobs: JobPass,
     pub(crate) results: ResultPass,
+    /// What it has taken and not settled: what `give` compares a result with.
     pub(crate) hand: InFlight,
+    /// The number of jobs that it has taken, stop tickets left out.
     pub(crate) taken: u32,
     pub(crate) given: u32,
     ghost takes: { view jobs ≡ Worker number (list_in (view jobs)) },
@@ -53,6 +58,7 @@ pub struct WorkerSeat {
 pub struct CollectorSeat {
     pub(crate) cubes: u32,
     pub(crate) results: ResultPass,
+    /// The number of results that it has gathered.
     pub(crate) gathered: u32,
     ghost counted: { gathered ≡ length (below cubes (of_results (list_in (view results)))) },
 }

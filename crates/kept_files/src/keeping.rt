@@ -7,7 +7,8 @@ use command_host::Host;
 use dimacs::SinkFault;
 use std::alloc::Global;
 
-/// The most names that are tried for a trace.
+/// The most names that are tried for a trace. The folder was new or empty when the run began, so names are taken only by traces of files with
+/// one stem, and by other programs.
 const MOST_NAMES: u32 = 1_000_000;
 
 /// A trace, and what shows that it has no legal schedule.
@@ -35,6 +36,7 @@ fn keep_trace<'p, H: Host<'p>>(
     ensures kept { IfOk result (λ name. KeepsTrace H.calls folder.now stem.now number trace.now host.old (string_bytes name) host.new) }
     ensures within { OnErr result (KeepsWithin H.calls folder.now host.old host.new) }
 {
+    // The file of the trace decides on the name, so it is made first: making it and finding that it is new are one call of the host.
     for taken in 0..MOST_NAMES {
         let name = name_of(alloc, stem, number, taken)?;
         let file = with_ending(alloc, name.as_str(), ".trace")?;
@@ -45,7 +47,7 @@ fn keep_trace<'p, H: Host<'p>>(
     Err(SinkFault::Device)
 }
 
-/// Makes a file of this name, which has to be new.
+/// Makes a file of this name, which has to be new. If there are no bytes, no file is made.
 fn keep_file<'p, H: Host<'p>>(
     alloc: Global,
     host: &mut H,

@@ -21,7 +21,8 @@ pub fn stem_of(path: &str) -> &str {
     }
 }
 
-/// The name of the files of the trace of this number, behind a number of names that were taken.
+/// The name of the files of the trace of this number, which counts from 1, behind a number of names that were taken: `STEM-NUMBER` at first, and
+/// then `STEM-NUMBER.2`, `STEM-NUMBER.3` and so on.
 pub(crate) fn name_of(
     alloc: Global,
     stem: &str,

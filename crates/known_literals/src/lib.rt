@@ -49,7 +49,8 @@ impl KnownLiterals {
         false
     }
 
-    /// Gives what they make of the clause of these literals.
+    /// Gives what they make of the clause of these literals. A literal that stands twice in it counts once. That one of them is known to be
+    /// true is not looked for: it is one that is not false.
     pub fn effect_on(&self, clause: &[Lit]) -> ClauseEffect {
         let mut open: Option<Lit> = None;
         for literal in clause {

@@ -24,7 +24,8 @@ pub struct ActiveClauses<'a> {
     added: AddedClauses<'a>,
 }
 
-/// The clause that is active under this id at the start, if one is.
+/// The clause that is active under this id at the start, if one is. Ids begin at 1: first those of the formula's clauses, then those of
+/// the cube's literals, each a unit clause. No clause has the id 0.
 fn clause_at_start<'b, F: ClauseList>(
     formula: &'b F,
     cube: &[Lit],
@@ -86,7 +87,7 @@ impl<'a> ActiveClauses<'a> {
         }
     }
 
-    /// The clause that was active under this id at the start, where it is not hidden.
+    /// The clause that was active under this id at the start, unless it is hidden.
     fn kept<'b, F: ClauseList>(&'b self, formula: &'b F, id: u64) -> Option<ListedClause<'b>>
         ensures { MatchOption result
             (kept_at (F.formula formula.now).clauses self.now id ≡ None)
@@ -104,7 +105,8 @@ impl<'a> ActiveClauses<'a> {
         }
     }
 
-    /// The clause that is active under this id, if one is.
+    /// The clause that is active under this id, if one is. What was active at the start is looked at first, so `insert` must hide it
+    /// before an added clause of the same id can be seen.
     #[inline(always)]
     pub fn get<'b, F: ClauseList>(&'b self, formula: &'b F, id: u64) -> Option<ListedClause<'b>>
         ensures { MatchOption result
@@ -127,7 +129,8 @@ impl<'a> ActiveClauses<'a> {
         self.get(formula, id).is_some()
     }
 
-    /// Hides what was active under this id at the start.
+    /// Hides what was active under this id at the start. Other ids are not entered: the counting of `take_table_off` and `take_tree_off`
+    /// then looks at hidden clauses alone.
     fn hide<F: ClauseList>(&mut self, formula: &F, id: u64) -> Result<(), AllocError>
         ensures hidden { OnOk result ((other : ℕ) →
             kept_at (F.formula formula.now).clauses self.new other ≡ without (id ∷ []) (kept_at (F.formula formula.now).clauses self.old) other) }
@@ -266,9 +269,11 @@ impl<'a> ActiveClauses<'a> {
             AreChanges (F.formula formula.now).clauses (early_at (F.formula formula.now).clauses self.now (self.now.added.first + place)) changes.old →
             AreChanges (F.formula formula.now).clauses (early_at (F.formula formula.now).clauses self.now (self.now.added.first + place + 1)) changes.new) }
     {
+        // The row was made for this very id, which is a `u64`: the sum never overflows.
         let Some(id) = self.added.first.checked_add(place as u64) else {
             return Err(AllocError);
         };
+        // `insert` hides the id, so no id is both kept and in a row. Asking costs little, and spares the type an invariant.
         if self.is_kept(formula, id) {
             return Ok(());
         }
@@ -301,6 +306,7 @@ impl<'a> ActiveClauses<'a> {
         ensures { OnOk result (AreChanges (F.formula formula.now).clauses (in_front (F.formula formula.now).clauses self.now) changes.old → AreChanges (F.formula formula.now).clauses (clause_at (F.formula formula.now).clauses self.now) changes.new) }
     {
         for (id, clause) in self.added.in_tree.iter() {
+            // A clause of the tree is not active if a row has its id: `AddedClauses::get` prefers rows.
             if !self.is_in_front(&*formula, *id) {
                 changes.add(clause.as_slice())?;
             }

@@ -16,9 +16,13 @@ const ROWS_FOR_EACH: usize = 8;
 /// found in the time of a search in a tree, and the rows are at most a fixed multiple of the clauses that were added.
 #[derive(Drop)]
 pub struct AddedClauses<'a> {
+    /// The id of row 0. It stays as it is once there are rows, which never become fewer.
     pub first: u64,
+    /// The clause of the id `first + k` in row `k`, unless none was added, or it was removed, or it stands in the tree.
     pub rows: Vec<Option<&'a Clause>>,
+    /// An id may stand here and in a row too, if the rows grew past it later. The row's clause is then the newer one, and counts.
     pub in_tree: BTreeMap<u64, &'a Clause>,
+    /// The number of clauses ever added. Removals do not lower it.
     count: usize,
 }
 
@@ -104,7 +108,7 @@ impl<'a> AddedClauses<'a> {
         self.in_tree(id)
     }
 
-    /// Lets the rows begin with this id, if there are none.
+    /// Lets the rows begin with this id, if there are none. Once there are, another first id would give each row the id of another.
     fn begin(&mut self, id: u64)
         ensures { (other : ℕ) → held_at self.new other ≡ held_at self.old other }
     {
@@ -153,7 +157,8 @@ impl<'a> AddedClauses<'a> {
         }
     }
 
-    /// Takes away the clause of this id, if there is one.
+    /// Takes away the clause of this id, if there is one. Both places are cleared, since the tree may have an older clause under the id,
+    /// which `get` would find once the row is empty.
     pub fn remove(&mut self, id: u64)
         ensures { (other : ℕ) → held_at self.new other ≡ without (id ∷ []) (held_at self.old) other }
     {

@@ -21,7 +21,8 @@ use std::alloc::Global;
 #[derive(Clone, Copy, Debug, PartialEq, Eq)]
 pub struct Accepted;
 
-/// Takes the step of this number, whose hints go through the list `room`. Whether it adds the empty clause.
+/// Takes the step of this number, counted from 1, whose hints go through the list `room`. Returns whether it adds the empty clause. A
+/// deletion may name ids of no active clause: they are passed over.
 fn take_step<'a, F: ClauseList>(
     alloc: Global,
     formula: &F,
@@ -68,7 +69,8 @@ fn take_step<'a, F: ClauseList>(
 }
 
 /// Checks as `check` does, where the counts of the formula's literals are shared by all derivations that are checked against it: they
-/// are made at the first RAT step of all, and a derivation then costs what it touches itself.
+/// are made at the first RAT step of all, and a derivation then costs what it touches itself. Steps after the first that adds the empty
+/// clause are not looked at.
 pub fn check_with<F: ClauseList>(
     alloc: Global,
     formula: &F,
@@ -106,7 +108,7 @@ pub fn check_with<F: ClauseList>(
 }
 
 /// Checks whether the derivation (LRAT, CADE 2017) shows that no model of the formula makes all literals of the cube
-/// true. If not, the first step that fails.
+/// true. If not, the refusal names the first step that fails.
 pub fn check<F: ClauseList>(
     alloc: Global,
     formula: &F,

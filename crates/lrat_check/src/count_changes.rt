@@ -12,7 +12,9 @@ use std::alloc::{AllocError, Global};
 /// How often each literal stands in the clauses that became active after the formula's own, and in those that are active no more.
 /// What is the same as in the formula has no entry, so a derivation costs what it touches itself.
 pub struct CountChanges {
+    /// Counts in all clauses that ever became active, those among them that were taken off again too.
     more: LiteralCounts,
+    /// Counts in all clauses that were ever taken off.
     less: LiteralCounts,
 }
 
@@ -52,7 +54,9 @@ impl CountChanges {
         self.less.add(clause)
     }
 
-    /// The number of times that the literal stands in the active clauses, if it stands `base` times in the formula's.
+    /// The number of times that the literal stands in the active clauses, if it stands `base` times in the formula's. No clause is taken
+    /// off that was not counted before, so the subtraction never saturates. A sum too large for a `usize` would be answered as memory that
+    /// ran out, as in `LiteralCounts`.
     pub fn applied(&self, literal: Lit, base: usize) -> Result<usize, AllocError>
         ensures { IfOk result (λ count. (clauses : List (List ℤ)) (active : ℕ → Option (List ℤ)) → AreChanges clauses active self.now → IsCount (numbered clauses) literal base →
             IsCount active literal count) }

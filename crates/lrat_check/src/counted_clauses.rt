@@ -15,6 +15,7 @@ use std::alloc::{AllocError, Global};
 /// The active clauses and, once a count was asked for, by what the counts of their literals differ from the formula's.
 pub struct CountedClauses<'a> {
     pub clauses: ActiveClauses<'a>,
+    /// None until a count is asked for.
     changes: Option<CountChanges>,
 }
 
@@ -82,7 +83,8 @@ impl<'a> CountedClauses<'a> {
         }
     }
 
-    /// Makes the clause active under this id.
+    /// Makes the clause active under this id. The counts stay right only if none is active under it yet, which the checker makes sure of
+    /// (`StepFault::IdInUse`).
     pub fn insert<F: ClauseList>(
         &mut self,
         formula: &F,
@@ -97,7 +99,7 @@ impl<'a> CountedClauses<'a> {
         self.clauses.insert(formula, id, clause)
     }
 
-    /// Takes away the clause of this id, if it is active.
+    /// Takes away the clause of this id, if it is active. It is taken off the counts first, while it can still be looked up.
     fn remove<F: ClauseList>(&mut self, formula: &F, id: u64) -> Result<(), AllocError>
         ensures active { OnOk result ((other : ℕ) →
             clause_at (F.formula formula.now).clauses self.new.clauses other ≡ without (id ∷ []) (clause_at (F.formula formula.now).clauses self.old.clauses) other) }

@@ -11,13 +11,14 @@ use std::marker::Model;
 /// A step of a derivation.
 pub enum Step {
     /// Adds a clause under an id. The hints say which clauses justify it, in the order of their use. After the negative of
-    /// an id stand those for the clause of that id.
+    /// an id stand those for the clause of that id, a candidate of a RAT check. Ids are from 1; the first literal is the pivot.
     Addition {
         id: u64,
         literals: Clause,
         hints: Hints,
     },
-    /// Drops the clauses of these ids. The first number of the line is kept, and says nothing.
+    /// Drops the clauses of these ids. The first number of the line says nothing to the checker, and is kept so that the step is written
+    /// as it was read.
     Deletion {
         first: u64,
         ids: Ids,

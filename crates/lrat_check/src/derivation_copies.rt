@@ -113,7 +113,8 @@ fn are_same_steps(first: &[Step], second: &[Step]) -> bool
     true
 }
 
-/// Returns whether the derivations are the same, with hints kept in the same way. It is so for copies.
+/// Returns whether the derivations are the same, with hints kept in the same way. It is so for copies. Of derivations with the same steps
+/// whose hints are kept in different ways (`Hints::are_same`) this says no.
 pub fn are_same(first: &Derivation, second: &Derivation) -> bool
     ensures { IsTrue result → first.now ≡ second.now }
 {

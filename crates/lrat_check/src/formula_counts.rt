@@ -10,7 +10,8 @@ use dimacs::{ClauseList, Lit};
 use std::alloc::{AllocError, Global};
 
 /// The counts of the literals of one formula's clauses, from the first time that one is asked for: derivations without RAT steps
-/// need none. All derivations over the formula share them, so the walk through its clauses is made once.
+/// need none. All derivations over the formula share them, so the walk through its clauses is made once. Nothing in the value names the
+/// formula: the caller must give the same one at each call, as `AreFormulaCounts` demands.
 #[derive(Drop)]
 pub struct FormulaCounts {
     counts: Option<LiteralCounts>,

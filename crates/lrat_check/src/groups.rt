@@ -21,7 +21,8 @@ use std::alloc::{AllocError, Global};
 use std::collections::BTreeSet;
 
 /// Checks that the resolvent with the candidate of this id follows by these hints, if the first `count` true literals were true
-/// after the first hints. The later ones are taken back, so a candidate costs no more than what it makes true itself.
+/// after the first hints. The later ones are taken back, so a candidate costs no more than what it makes true itself. The hints may go on
+/// with later groups: `propagate` ends before the next negative one. `number` is the number of the step, which a refusal names.
 fn check_candidate<F: ClauseList>(
     formula: &F,
     active: &ActiveClauses,
@@ -44,6 +45,7 @@ fn check_candidate<F: ClauseList>(
         return Err(Refusal::At(StepFault::NotOpposed, number));
     }
     keep_first(trues, count);
+    // The negation of the resolvent makes that literal false, which is a conflict already.
     if other_holds(trues, pivot, clause.as_slice()) {
         return Ok(());
     }
@@ -111,6 +113,7 @@ pub fn has_all<F: ClauseList>(
     let mut seen = BTreeSet::new(alloc);
     let mut rest = hints;
     while let Some((id, after)) = cut_group(rest) {
+        // A clause with two groups is taken off once: taken off twice, it would hide one that has none.
         if seen.insert(id)? {
             left = left.saturating_sub(times_at(formula, active, id, negation));
         }

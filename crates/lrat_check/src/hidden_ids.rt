@@ -10,12 +10,15 @@ use crate::marks::{is_paid, marked_at};
 use std::alloc::{AllocError, Global};
 use std::collections::BTreeSet;
 
-/// The ids that are hidden. A table has the ids that those hidden before pay for, so what is hidden near the end of a large formula
-/// costs no table as long as the formula; ids past the table stand in a tree.
+/// The ids that are hidden; an id that is hidden stays so. A table has the ids that those hidden before pay for, so what is hidden near the
+/// end of a large formula costs no table as long as the formula; ids past the table stand in a tree.
 #[derive(Drop)]
 pub struct HiddenIds {
+    /// Whether each id from 0 on is hidden, up to the table's end. For these ids the table alone is asked.
     pub near: Vec<bool>,
+    /// Hidden ids past the end that the table had when they were added. They stay here when the table grows past them.
     pub far: BTreeSet<usize>,
+    /// The number of calls of `add`, by which the table may grow (`is_paid`).
     hidden: usize,
 }
 
@@ -74,7 +77,7 @@ impl HiddenIds {
         }
     }
 
-    /// Makes the table reach to this id. What is hidden stays so.
+    /// Makes the table reach to this id. What is hidden stays so: each new row takes over what the tree says of its id.
     fn reach(&mut self, id: usize) -> Result<(), AllocError>
         ensures room { OnOk result (id < vec_len self.new.near) }
         ensures same { (k : ℕ) → is_hidden self.new k ≡ is_hidden self.old k }

@@ -3,7 +3,7 @@
 ghost use Rattle.std.specs.Prelude.{◌≡◌, ◌<◌, [], ◌∷◌, length, MatchOption};
 ghost use Rattle.lrat_check.specs.Hints.{first_hints, groups_of};
 
-/// The id of the first group, and the hints after it, if there is a group.
+/// The id of the first group, and the hints after it, if there is a group. Those are the group's own hints and all later groups.
 pub fn cut_group(hints: &[i64]) -> Option<(u64, &[i64])>
     ensures { MatchOption result
         (groups_of hints.now ≡ [])

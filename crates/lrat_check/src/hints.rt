@@ -12,10 +12,12 @@ use short_lists::inline_list::InlineList;
 use std::alloc::{AllocError, Global};
 use std::marker::Model;
 
-/// Numbers of 32 bits that take no more room than a list does, and need no memory of their own.
+/// The most numbers of 32 bits that stand in the value itself. They take no more room there than the header of a list, and need no memory
+/// of their own.
 const FEW: usize = 4;
 
-/// Numbers, in 32 bits each if all of them fit. A few of those stand in the value itself.
+/// Numbers, in 32 bits each if all of them fit. A few of those stand in the value itself. `Hints::new` makes a `Long` of any numbers, so
+/// the same numbers can be kept in different ways; only `Hints::compact` takes the smallest.
 pub enum NumberList {
     Few(InlineList<i32, FEW>),
     Short(Vec<i32>),
@@ -125,7 +127,7 @@ fn are_same_long(first: &[i64], second: &[i64]) -> bool
 }
 
 impl Hints {
-    /// These hints.
+    /// These hints, each in the 64 bits that it has.
     pub fn new(numbers: Vec<i64>) -> Hints
         ensures { result ≡ numbers.items }
     {

@@ -29,7 +29,8 @@ fn without_pivot(hints: &[i64]) -> StepFault
     }
 }
 
-/// Gives what is wrong if an active clause that holds the pivot's negation has no group.
+/// Gives what is wrong if an active clause that holds the pivot's negation has no group. Without any group the step was not meant as RAT, and
+/// it is called `NoConflict`.
 fn without_group(hints: &[i64]) -> StepFault
     ensures { result ≡ missing (groups_of hints.now) }
 {
@@ -39,7 +40,9 @@ fn without_group(hints: &[i64]) -> StepFault
     }
 }
 
-/// Checks that the clause is RAT on its first literal by the groups among the hints, if its first hints lead to no conflict.
+/// Checks that the clause is RAT on its first literal by the groups among the hints, if its first hints lead to no conflict. The groups that
+/// there are come first, and only then whether one is missing, as the contract has the faults in order; a step that fails earlier needs no
+/// counts.
 fn check_rat<F: ClauseList>(
     alloc: Global,
     formula: &F,

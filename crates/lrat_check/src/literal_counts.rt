@@ -22,8 +22,11 @@ pub fn times(clause: &[Lit], literal: Lit) -> usize
 /// that the literals counted before pay for; the counts past those stand in a tree.
 #[derive(Drop)]
 pub struct LiteralCounts {
+    /// The count at each place from 0 on (`marks::place_of`), up to the table's end. For these places the table alone is asked.
     near: Vec<usize>,
+    /// Counts at places past the end that the table had when they were put. Old ones stay here when the table grows past them.
     far: BTreeMap<usize, usize>,
+    /// The number of literals that were counted, by which the table may grow (`is_paid`).
     counted: usize,
 }
 
@@ -60,7 +63,7 @@ impl LiteralCounts {
         }
     }
 
-    /// Makes the table reach to this place. The counts stay as they are.
+    /// Makes the table reach to this place. The counts stay as they are: each new row takes over the count in the tree.
     fn reach(&mut self, place: usize) -> Result<(), AllocError>
         ensures room { OnOk result (place < vec_len self.new.near) }
         ensures same { (k : ℕ) → count_at self.new k ≡ count_at self.old k }

@@ -10,7 +10,7 @@ use crate::lrat_fault::LratCause;
 use dimacs::{Lit, MAX_VARIABLE};
 use text_lines::numbers::{SolverNumber, read_solver_number};
 
-/// The largest id.
+/// The largest id: it and its negative both fit the `i64` of a hint.
 pub const MAX_ID: u64 = 9_223_372_036_854_775_807;
 
 /// Returns whether the number is an id of a clause.
@@ -27,7 +27,7 @@ pub fn is_hint(hint: i64) -> bool
     is_id(hint.unsigned_abs())
 }
 
-/// The id that the word writes, or 0.
+/// The id that the word writes, or 0, which ends a list of ids.
 pub fn read_id(word: &[u8]) -> Result<u64, LratCause>
     ensures { MatchResult result
         (λ id. (solver_number word.now ≡ Some (pos id)) × (id ≤ most_id))
@@ -45,7 +45,8 @@ pub fn read_id(word: &[u8]) -> Result<u64, LratCause>
     }
 }
 
-/// The number from `least` to the largest id that the word writes.
+/// The number from `least` to the largest id that the word writes. `least` is 1 for the id of an addition, and 0 for the first number of a
+/// deletion, which names no clause.
 pub fn read_first(word: &[u8], least: u64) -> Result<u64, LratCause>
     ensures { MatchResult result
         (λ id. (solver_number word.now ≡ Some (pos id)) × (least ≤ id) × (id ≤ most_id))

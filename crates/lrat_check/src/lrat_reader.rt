@@ -32,7 +32,8 @@ struct LineRooms {
     literals: Vec<Lit>,
 }
 
-/// The ids up to the first 0 of the line of this number, and what follows.
+/// The ids up to the first 0 of the line of this number, and what follows. Almost all words are short numbers with one blank between them,
+/// which `push_short_ids` reads at once; the loop is for each other word (more digits, more blanks, faults), and for a 0 behind one.
 fn read_ids<'x>(
     alloc: Global,
     ids: &mut Vec<u64>,
@@ -62,7 +63,8 @@ fn read_ids<'x>(
     Err(LratFault::At(LratCause::Unended, number))
 }
 
-/// The hints up to the first 0 of the line of this number, and what follows.
+/// The hints up to the first 0 of the line of this number, and what follows. They are read as `read_ids` reads ids; a hint with a minus
+/// goes through the loop.
 fn read_hints<'x>(
     alloc: Global,
     hints: &mut Vec<i64>,
@@ -89,7 +91,7 @@ fn read_hints<'x>(
     Err(LratFault::At(LratCause::Unended, number))
 }
 
-/// The literals up to the first 0 of the line of this number, and what follows.
+/// The literals up to the first 0 of the line of this number, and what follows. They are read as `read_ids` reads ids.
 fn read_literals<'x>(
     alloc: Global,
     literals: &mut Vec<Lit>,
@@ -116,7 +118,7 @@ fn read_literals<'x>(
     Err(LratFault::At(LratCause::Unended, number))
 }
 
-/// Checks that no word follows.
+/// Checks that no word follows. A word that is no number is the fault `BadNumber` here too, as everywhere on the line.
 fn end_line(rest: &[u8], number: usize) -> Result<(), LratFault>
     ensures { MatchResult result
         (λ _. words_of rest.now ≡ [])
@@ -193,7 +195,8 @@ fn behind_letter(rest: &[u8]) -> Option<&[u8]>
     }
 }
 
-/// The step on the line of this number; nothing if the line is skipped.
+/// The step on the line of this number; nothing if the line is skipped. The first word is a number in both kinds of step, and the second is
+/// `d` in a deletion alone.
 fn read_line(
     alloc: Global,
     rooms: &mut LineRooms,

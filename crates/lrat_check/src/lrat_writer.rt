@@ -90,7 +90,8 @@ fn push_step(alloc: Global, text: &mut Vec<u8>, step: &Step) -> Result<(), Alloc
     Ok(())
 }
 
-/// The canonical text of the derivation: one step a line, words parted by single spaces, each line ended by a line feed.
+/// The canonical text of the derivation: one step a line, words parted by single spaces, each line ended by a line feed. `read_lrat` reads the
+/// same steps from it if their ids and hints are within the range of ids (`is_lrat_step`).
 pub fn write_lrat(alloc: Global, derivation: &Derivation) -> Result<Vec<u8>, AllocError>
     ensures { IfOk result (λ text. text.items ≡ canonical_derivation derivation.now) }
 {

@@ -21,7 +21,8 @@ pub fn is_paid(place: usize, entries: usize) -> bool {
     place / PLACES_PER_ENTRY <= entries.saturating_add(PAID_AT_START)
 }
 
-/// The place of the literal in a table of marks.
+/// The place of the literal in a table of marks or counts: 2v for the variable v, 2v + 1 for its negation. Variables begin at 1, so places
+/// 0 and 1 are not used.
 pub fn place_of(literal: Lit) -> usize
     ensures { result ≡ place_of literal }
 {
@@ -74,7 +75,7 @@ pub fn unmark_at(marks: &mut Vec<bool>, place: usize)
 pub struct LiteralMarks {
     near: Vec<bool>,
     far: BTreeSet<usize>,
-    /// The number of marks that were made.
+    /// The number of marks that were ever made. Marks taken away do not lower it.
     made: usize,
 }
 
@@ -156,7 +157,7 @@ impl LiteralMarks {
         }
     }
 
-    /// Takes the mark at this place away.
+    /// Takes the mark at this place away, from the table and the tree: either may have it.
     pub fn remove(&mut self, place: usize)
         ensures { (k : ℕ) → is_marked self.new k ≡ (is_marked self.old k && not (k == place)) }
     {

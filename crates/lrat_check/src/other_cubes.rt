@@ -8,7 +8,8 @@ use crate::derivation::{Derivation, Step};
 use crate::rat::holds;
 use dimacs::Lit;
 
-/// Returns whether the id is not among those of a cube of this length, after this many clauses.
+/// Returns whether the id is not among those of a cube of this length, after this many clauses: the cube's literals have the ids from
+/// `clauses + 1` to `clauses + cube`.
 pub fn is_outside(clauses: usize, cube: usize, id: u64) -> bool
     ensures { result ≡ is_outside clauses cube id }
 {
@@ -45,7 +46,8 @@ fn opposes_pivot(cube: &[Lit], literals: &[Lit]) -> bool
     }
 }
 
-/// Returns whether the second cube opposes the pivot of what the step adds only where the first does.
+/// Returns whether the second cube opposes the pivot of what the step adds only where the first does. A cube's literal that is the negation of
+/// the pivot is one more clause that needs a RAT group, and a step that names none of the cube's ids has no group for it.
 fn opposes_no_more(first: &[Lit], second: &[Lit], step: &Step) -> bool
     ensures { result ≡ opposes_no_more first.now second.now step.now }
 {

@@ -58,7 +58,7 @@ fn with_literal(standing: ClauseStatus, literal: Lit, trues: &TrueLiterals) -> C
     }
 }
 
-/// Says whether the clause is falsified, unit, or neither under the literals that are true.
+/// Returns whether the clause is falsified, unit, or neither under the literals that are true.
 fn standing_of(clause: &[Lit], trues: &TrueLiterals) -> ClauseStatus
     ensures { IsStanding trues.now clause.now result }
 {
@@ -118,6 +118,7 @@ pub fn propagate<F: ClauseList>(
         (Reaches (clause_at (F.formula formula.now).clauses active.now) trues.old (first_hints hints.now) trues.new))
         (λ refusal. IsRefusalAt (λ fault. FailsToRefute (clause_at (F.formula formula.now).clauses active.now) trues.old (first_hints hints.now) fault × (fault ≢ NoConflict)) number refusal) }
 {
+    // Hints after the one that gives the conflict are not looked at, whatever they name.
     for hint in hints {
         if *hint < 0 {
             return Ok(false);

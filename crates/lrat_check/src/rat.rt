@@ -62,7 +62,8 @@ fn assume_other(trues: &mut TrueLiterals, pivot: Lit, literal: Lit) -> Result<()
     trues.push(literal.negated())
 }
 
-/// Makes the negations of the clause's literals but the pivot's negation true as well.
+/// Makes the negations of the clause's literals but the pivot's negation true as well. If the clause is a tautology, a literal and its
+/// negation are then both true: each counts as true and as false.
 pub fn assume_others(trues: &mut TrueLiterals, pivot: Lit, clause: &[Lit]) -> Result<(), AllocError>
     ensures { OnOk result (trues.new ≡ trues.old ++ negated (others pivot clause.now)) }
 {

@@ -34,6 +34,7 @@ impl FaultCause for StepFault {
 
     ghost name_of = { fault_name };
 
+    /// The number that a refusal prints before the name. It begins at 2, since 1 says in each table of causes that memory ran out.
     fn number(&self) -> u8 {
         match self {
             StepFault::UnknownHint => 2,

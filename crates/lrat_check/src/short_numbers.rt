@@ -13,7 +13,7 @@ use dimacs::{Lit, MAX_VARIABLE};
 use std::alloc::AllocError;
 use text_lines::words::is_blank_byte;
 
-/// The most digits of a short number.
+/// The most digits of a short number: a value below 10^18 fits a `u64`, and an `i64` too, as which hints are kept.
 const MOST_DIGITS: usize = 18;
 
 /// The value of the digits at the front of the text, and how many they are. If a byte follows that is no blank, the count is 0. The value
@@ -51,7 +51,7 @@ fn short_number(text: &[u8]) -> (u64, usize)
     (value, count)
 }
 
-/// The bytes after this place.
+/// The bytes after this place, at which the blank stands that ends a number. None are left if the number ends the text.
 #[inline(always)]
 fn behind(text: &[u8], place: usize) -> &[u8]
     ensures { result.now ≡ drop (place + 1) text.now }
@@ -74,7 +74,7 @@ pub(crate) fn behind_zero(line: &[u8]) -> Option<&[u8]>
     Some(behind(line, count))
 }
 
-/// Adds the ids that are short numbers at the front of the line, up to a 0 or another word. Gives what follows.
+/// Adds the ids that are short numbers at the front of the line, up to a 0 or another word. Gives what follows, from the 0 or that word on.
 pub(crate) fn push_short_ids<'x>(ids: &mut Vec<u64>, line: &'x [u8]) -> Result<&'x [u8], AllocError>
     ensures { IfOk result (λ rest. ReadsOn id_fault is_id_number (map pos ids.old.items) line.now (map pos ids.new.items) rest.now) }
 {
@@ -89,7 +89,8 @@ pub(crate) fn push_short_ids<'x>(ids: &mut Vec<u64>, line: &'x [u8]) -> Result<&
     }
 }
 
-/// Adds the hints that are short numbers at the front of the line, up to a 0 or another word. Gives what follows.
+/// Adds the hints that are short numbers at the front of the line, up to a 0 or another word. Gives what follows. A hint with a minus
+/// is such another word: only RAT steps have one, and they are few.
 pub(crate) fn push_short_hints<'x>(
     hints: &mut Vec<i64>,
     line: &'x [u8],

@@ -8,7 +8,8 @@ use dimacs::Lit;
 use std::alloc::{AllocError, Global};
 use std::marker::Model;
 
-/// A literal that became true, and whether it was not true before.
+/// A literal that became true, and whether it was not true before. `undo` takes the mark away only of one that was new: an earlier entry
+/// of the trail still needs the mark of any other.
 #[derive(Clone, Copy)]
 struct TrueLiteral {
     literal: Lit,
@@ -80,6 +81,7 @@ impl TrueLiterals {
         self.trail.push(TrueLiteral { literal, is_new })?;
         match self.marks.add(place) {
             Ok(()) => Ok(()),
+            // An entry of the trail without its mark would break the invariant, even though the caller gives up.
             Err(error) => {
                 self.trail.truncate(count);
                 Err(error)
@@ -87,7 +89,8 @@ impl TrueLiterals {
         }
     }
 
-    /// Assigns the literal.
+    /// Assigns the literal. Almost always neither the trail nor the table must grow, and the tree of marks is empty: then nothing is
+    /// allocated and no search is made.
     pub fn push(&mut self, literal: Lit) -> Result<(), AllocError>
         ensures { OnOk result (self.new ≡ self.old ++ literal ∷ []) }
     {

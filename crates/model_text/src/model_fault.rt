@@ -29,6 +29,7 @@ impl FaultCause for ModelCause {
 
     fn number(&self) -> u8 {
         match self {
+            // 1 says that memory ran out, for faults of all kinds
             ModelCause::SaysUnsatisfiable => 2,
             ModelCause::BadLine => 3,
             ModelCause::BadNumber => 4,

@@ -50,6 +50,7 @@ fn is_true(values: &[bool], variable: u32) -> bool
 /// the zero that ends the model has come.
 #[derive(Drop)]
 pub struct ModelReader {
+    /// Element k is of the variable k + 1, here and in `negative`. The lists grow as larger variables come; what is past the end is false.
     positive: Vec<bool>,
     negative: Vec<bool>,
     ended: bool,
@@ -119,6 +120,7 @@ impl ModelReader {
         ensures taken { OnOk result (TakesThings ((line_number, Word word.now) ∷ []) self.old self.new) }
         ensures refused { IfErr result (RefusesThings ((line_number, Word word.now) ∷ []) self.old) }
     {
+        // first, since any word after the 0 is a `BadLine`, also one that is no number
         if self.ended {
             return Err(PlacedFault::At(ModelCause::BadLine, line_number));
         }

@@ -7,6 +7,7 @@ const MAX_DIGITS: usize = 20;
 #[derive(Drop)]
 pub struct Digits {
     digits: [u8; MAX_DIGITS],
+    /// The place of the first digit. Before it stand zeros that are not of the number.
     start: usize,
 }
 

@@ -6,6 +6,7 @@ use std::alloc::{AllocError, Global};
 #[derive(Drop)]
 pub struct GrowingText {
     bytes: Vec<u8>,
+    /// An `Err` once memory ran out. It stays, so that no later words follow a gap.
     outcome: Result<(), AllocError>,
 }
 

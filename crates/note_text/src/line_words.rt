@@ -17,7 +17,7 @@ pub fn word_at(line: &[u8], place: usize) -> &[u8] {
     }
 }
 
-/// The number of words of the line.
+/// The number of words of the line. Each has a byte or more, so the line's length bounds the turns, and the count does not wrap.
 pub fn count_words(line: &[u8]) -> usize {
     let mut rest = line;
     let mut count = 0usize;
@@ -31,7 +31,7 @@ pub fn count_words(line: &[u8]) -> usize {
     count
 }
 
-/// The offset in the line, in bytes, at which the word at this place begins.
+/// The offset in the line, in bytes, at which the word at this place begins. Blank bytes are those at which `cut_word` parts words.
 pub fn word_start(line: &[u8], place: usize) -> Option<usize> {
     let mut left = place;
     let mut is_within = false;

@@ -24,7 +24,8 @@ fn add_numbered(text: &mut GrowingText, name: &str, number: u64, line: &[u8]) {
     text.add(&[b"\n"]);
 }
 
-/// Adds a line whose mark stands below what follows `front` in the line of this name and number.
+/// Adds a line whose mark stands below what follows `front` in the line of this name and number. It has as many columns as what
+/// `add_numbered` puts before the line, so both have to be changed together.
 fn add_mark(text: &mut GrowingText, name: &str, number: u64, front: &[u8]) {
     text.add(&[NOTE]);
     add_blanks(text, name.as_bytes());
@@ -76,7 +77,7 @@ impl Notes {
         self.text.into_whole()
     }
 
-    /// Adds the words, one after the other, as a line.
+    /// Adds the words, one after the other, as a line. If memory runs out on the way, what was added of it is dropped again.
     pub fn line(&mut self, words: &[&[u8]]) {
         let kept = self.as_slice().len();
         self.text.add(words);

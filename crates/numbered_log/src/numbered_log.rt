@@ -10,7 +10,7 @@ use total_tables::{at, put, size};
 /// The origin of the value of a reading operation, by number.
 #[derive(Clone, Copy)]
 pub enum NumberedOrigin {
-    /// Nothing.
+    /// Nothing is known.
     Any,
     /// The initial value.
     Initial,
@@ -25,11 +25,12 @@ pub struct Operation {
     pub process: ProcessId,
     pub place: ProcessPlace,
     pub location: LocationId,
+    /// Whether it reads. A read-modify-write reads and writes.
     pub reads: bool,
     pub writes: bool,
-    /// The value that it reads.
+    /// The value that it reads; without a meaning if it reads nothing.
     pub needed: u64,
-    /// The value that it leaves.
+    /// The value that it leaves; without a meaning if it writes nothing.
     pub left: u64,
     pub origin: NumberedOrigin,
 }
@@ -177,7 +178,7 @@ impl NumberedLog {
         LocationId::first(self.locations())
     }
 
-    /// The process's first operation.
+    /// The process's first operation, and behind the last process the number of all operations.
     #[inline(always)]
     pub fn start(&self, process: ProcessId) -> OperationId {
         OperationId::new(at(self.starts.as_slice(), process.number(), 0))
@@ -208,7 +209,7 @@ impl NumberedLog {
         ProcessPlace::FIRST.up_to(self.end(process))
     }
 
-    /// The process's operation at this place.
+    /// The process's operation at this place, which must be one of its places: others give operations of other processes, or none.
     #[inline(always)]
     pub fn number(&self, process: ProcessId, place: ProcessPlace) -> OperationId {
         self.start(process).at_place(place)

@@ -227,7 +227,7 @@ impl ProcessPlace {
         ProcessPlace::new(self.number.wrapping_add(1))
     }
 
-    /// The place before this one.
+    /// The place before this one. That of `START` is `FAR`.
     #[inline(always)]
     pub fn previous(self) -> ProcessPlace {
         ProcessPlace::new(self.number.wrapping_sub(1))

@@ -1,4 +1,6 @@
 //! The text of a certificate of reasons.
+//!
+//! docs/REASONS.md says what the words and letters of a text mean.
 
 use crate::order_certificate::{LogNames, NamedPlace};
 use crate::reason_words::ReasonWord;
@@ -27,9 +29,11 @@ const NO_PLACE: NamedPlace = NamedPlace {
 pub(crate) struct CertificateText<'a> {
     names: &'a LogNames<'a>,
     bytes: Vec<u8>,
+    /// The number of each variable, from 1. Numbers of operations rise by process, so the variable of a pair has the smaller one first.
     variables: HashMap<OrderVariable, u32>,
 }
 
+/// The variable of the literal, whichever operation it has first.
 fn variable_of(literal: Literal) -> OrderVariable {
     OrderVariable {
         first: literal.first.number().min(literal.second.number()),
@@ -61,7 +65,8 @@ impl<'a> CertificateText<'a> {
         bytes
     }
 
-    /// Numbers the variables of the literals that have no number yet, each by a line.
+    /// Numbers the variables of the literals that have no number yet, each by a line. These lines must come before those of clauses: a reader numbers
+    /// variables as it meets them, and would give other numbers.
     pub(crate) fn number_variables(&mut self, literals: &[Literal]) -> Result<(), AllocError> {
         for literal in literals {
             let variable = variable_of(*literal);
@@ -111,17 +116,20 @@ impl<'a> CertificateText<'a> {
         self.push_number(named.place.number())
     }
 
+    /// Adds the number in decimal.
     fn push_number(&mut self, number: u32) -> Result<(), AllocError> {
         let mut buffer = Buffer::new();
         self.bytes
             .extend_from_slice(buffer.format(number).as_bytes())
     }
 
+    /// Adds the line `p`, behind which the steps stand.
     pub(crate) fn begin_derivation(&mut self) -> Result<(), AllocError> {
         self.bytes.extend_from_slice(b"p\n")
     }
 
-    /// Begins a step with its number and its literals.
+    /// Begins a step with its number and its literals. The 0 ends the literals, and `end_step` writes that of the hints. A literal is negative if it has
+    /// the larger operation first.
     pub(crate) fn begin_step(
         &mut self,
         number: u32,
@@ -135,6 +143,7 @@ impl<'a> CertificateText<'a> {
             }
             let variable = match self.variables.get(&variable_of(*literal)) {
                 Some(variable) => *variable,
+                // Each literal has a variable by then: a 0 would end the clause.
                 None => 0,
             };
             self.push_number(variable)?;
@@ -148,6 +157,7 @@ impl<'a> CertificateText<'a> {
         self.push_number(number)
     }
 
+    /// Ends the hints of the step, and its line.
     pub(crate) fn end_step(&mut self) -> Result<(), AllocError> {
         self.bytes.extend_from_slice(b" 0\n")
     }

@@ -1,4 +1,7 @@
 //! The explanation of a conflict, from it backwards to what a derivation may begin with.
+//!
+//! Past the end of a table `at` reads as its last argument, and `put` does nothing; so arithmetic may wrap, and a wrong place makes no fault. Only one
+//! line is unfinished at a time: whatever asks for facts while a line is made must write no line of its own.
 
 use crate::derivation_steps::{DerivationHint, DerivationSteps};
 use crate::hint_list::HintList;
@@ -19,6 +22,7 @@ use total_tables::{at, size};
 pub(crate) struct DerivedPair {
     pub(crate) pair: u32,
     pub(crate) hint: Option<DerivationHint>,
+    /// The first of these places and the one behind the last.
     pub(crate) begin: u32,
     pub(crate) end: u32,
 }
@@ -44,15 +48,17 @@ pub(crate) struct Explanation {
     pub(crate) derived: Vec<DerivedPair>,
     /// The facts of all that is derived.
     pub(crate) fact_numbers: Vec<u32>,
-    /// For each learned clause its step.
+    /// For each learned clause its step. Only clauses that were derived anew are in it, under the numbers that the replay gives them.
     pub(crate) clause_steps: Vec<u32>,
     /// Whether each pair of no decision has a step of its own, since many clauses rest on it.
     pub(crate) has_units: bool,
-    /// The reader's sources at a time, of each interval: where it begins and ends.
+    /// The reader's sources at a time, of each interval: where it begins and ends. Both are positions among the writers of `ValueClasses`, as `add_pieces`
+    /// found them last.
     pub(crate) lows: Vec<u32>,
     pub(crate) highs: Vec<u32>,
-    /// Whether something has no line.
+    /// Whether something has no line. Then the conflict at hand has no step.
     pub(crate) is_lost: bool,
+    /// Pairs looked at by `ask_reasons` that are not taken out of the budget yet.
     pub(crate) looked: u64,
 }
 
@@ -115,7 +121,7 @@ impl Explanation {
     }
 
     /// Explains the conflict of the order, and derives the clause of these literals from it. Returns its step; none if a reason has no line,
-    /// if there is no room, or if the budget is spent before.
+    /// if there is no room, or if the budget is spent before. Decisions must still stand: the pairs of the conflict are looked up.
     pub(crate) fn explain(
         &mut self,
         order: &mut Propagation<'_>,
@@ -177,6 +183,7 @@ impl Explanation {
         let steps = self.search.take_steps().saturating_add(self.looked);
         self.looked = 0;
         order.spend(steps);
+        // `derive` relies on this: a clause without a step would be a hint of no number.
         if self.is_lost || self.lines.is_full() || self.steps.is_full() {
             return Ok(None);
         }
@@ -233,6 +240,7 @@ impl Explanation {
     /// Notes that the pairs, of which the last comes first, are a cycle. Two that are each other turned round need no line for that.
     fn add_cycle(&mut self, order: &Propagation<'_>, cycle: &[u32]) -> Result<(), AllocError> {
         self.lines.begin(b'c')?;
+        // A cycle of pairs runs backwards, so its way begins at the first operation of its last pair.
         let begin = order
             .pairs()
             .pair(at(cycle, size(cycle).wrapping_sub(1), NO_NUMBER))
@@ -254,6 +262,7 @@ impl Explanation {
             last = pair.second;
         }
         if operations <= 2 {
+            // The line that was begun is dropped when the next one begins.
             return self.note_derived(NO_NUMBER, None);
         }
         let hint = self.finish_line()?;
@@ -290,6 +299,7 @@ impl Explanation {
         order: &Propagation<'_>,
         clauses: &LearnedClauses,
     ) -> Result<(), AllocError> {
+        // A reason is older than its pair and has a smaller number, so what it marks is still to come.
         for number in (0..self.marks.highest().wrapping_add(1)).rev() {
             self.looked = self.looked.wrapping_add(1);
             if self.is_lost || self.search.steps() > order.budget().left() {
@@ -305,7 +315,8 @@ impl Explanation {
         Ok(())
     }
 
-    /// Asks why the first operation stands before the second, by pairs that are older than the time.
+    /// Asks why the first operation stands before the second, by pairs that are older than the time. It writes no line. That of a way of several pairs is
+    /// made by `cycle_line`, when all lines of reasons are finished.
     pub(crate) fn ask(
         &mut self,
         order: &Propagation<'_>,
@@ -331,7 +342,7 @@ impl Explanation {
         Ok(())
     }
 
-    /// Finds a way that answers the question, and marks its pairs.
+    /// Finds a way that answers the question, and marks its pairs. The way begins at the first operation: the search has its last pair first.
     fn find_way(
         &mut self,
         order: &Propagation<'_>,

@@ -10,6 +10,7 @@ pub(crate) struct HintList {
     /// For each line and each step the turn in which it was added last, so that nothing is cleared for the next step.
     line_turns: Vec<u32>,
     step_turns: Vec<u32>,
+    /// The number of the step at hand, from 1, since 0 stands for no turn.
     turn: u32,
 }
 
@@ -25,7 +26,8 @@ impl Drop for HintList {
     }
 }
 
-/// Notes that the number comes up in this turn. Returns whether it came up before.
+/// Notes that the number comes up in this turn. Returns whether it came up before. The number must be that of a line or step, since the table gets entries
+/// up to it; so `Explanation::finish` derives nothing if a reason has none.
 fn note(turns: &mut Vec<u32>, number: u32, turn: u32) -> Result<bool, AllocError> {
     for _ in size(turns.as_slice())..number.saturating_add(1) {
         turns.push(0)?;

@@ -8,9 +8,11 @@ use total_tables::{at, put, size};
 pub(crate) struct MarkedPairs {
     /// For each pair, by number, whether it is marked. One that a step derives stays so: ways that lead over it then cost nothing more.
     is_marked: Vec<bool>,
+    /// Those that were marked since `clear`.
     marked: Vec<u32>,
     /// For each pair the step that derives it, or `NO_NUMBER`.
     steps: Vec<u32>,
+    /// The largest number of these, or 0.
     highest: u32,
 }
 
@@ -48,7 +50,7 @@ impl MarkedPairs {
         self.highest = 0;
     }
 
-    /// Marks the pair.
+    /// Marks the pair. The number must be that of a pair, since both tables get entries up to it.
     pub(crate) fn mark(&mut self, number: u32) -> Result<(), AllocError> {
         for _ in size(self.is_marked.as_slice())..number.saturating_add(1) {
             self.is_marked.push(false)?;

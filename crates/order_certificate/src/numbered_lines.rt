@@ -1,4 +1,6 @@
 //! Lines of reasons, each once, since many clauses rest on the same ones.
+//!
+//! Past the end of a table `at` reads as its last argument, and `put` does nothing; so arithmetic may wrap, and a wrong place makes no fault.
 
 use crate::reason_words::ReasonWord;
 use numbered_log::{LocationId, NO_NUMBER, OperationId};
@@ -15,7 +17,8 @@ const FIRST_SLOTS: u32 = 1 << 10;
 pub(crate) struct NumberedLines {
     alloc: Global,
     words: Vec<ReasonWord>,
-    /// The place at which the first line begins, and for each line the place behind it.
+    /// The place at which the first line begins, and for each line the place behind it. Words behind the last of these places are of the line that is not
+    /// finished.
     ends: Vec<u32>,
     /// A line for each slot that is taken, else `NO_NUMBER`.
     slots: Vec<u32>,
@@ -87,13 +90,14 @@ impl NumberedLines {
         size(self.words.as_slice()) > MOST_WORDS
     }
 
+    /// The words of the line of this number, from 0.
     pub(crate) fn line(&self, number: u32) -> &[ReasonWord] {
         let begin = at(self.ends.as_slice(), number, 0);
         let end = at(self.ends.as_slice(), number.wrapping_add(1), 0);
         piece(self.words.as_slice(), begin, end)
     }
 
-    /// Begins a line of this letter.
+    /// Begins a line of this letter. What was written of an unfinished line is dropped.
     pub(crate) fn begin(&mut self, letter: u8) -> Result<(), AllocError> {
         self.drop_unfinished();
         self.letter(letter)
@@ -126,6 +130,7 @@ impl NumberedLines {
         at(self.ends.as_slice(), self.count(), 0)
     }
 
+    /// Drops the words of the line that is not finished.
     fn drop_unfinished(&mut self) {
         let begin = self.unfinished() as usize;
         self.words.truncate(begin);
@@ -150,7 +155,7 @@ impl NumberedLines {
         Ok(number)
     }
 
-    /// The slot of the line of these words, or the free one in which it would stand.
+    /// The slot of the line of these words, or the free one in which it would stand. A slot is always free: the table grows when half of it is taken.
     fn slot_of(&self, words: &[ReasonWord]) -> u32 {
         let mask = size(self.slots.as_slice()).wrapping_sub(1);
         let mut slot = mix(words) & mask;

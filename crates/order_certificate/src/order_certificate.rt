@@ -1,4 +1,6 @@
 //! A certificate by numbers of operations, and its text.
+//!
+//! Past the end of a table `at` reads as its last argument, and `put` does nothing; so arithmetic may wrap, and a wrong place makes no fault.
 
 use crate::certificate_text::CertificateText;
 use crate::derivation_steps::DerivationHint;
@@ -26,6 +28,7 @@ pub struct LogNames<'a> {
 #[derive(Drop)]
 pub struct OrderCertificate {
     explanation: Explanation,
+    /// The step that derives the empty clause.
     last: u32,
 }
 
@@ -35,7 +38,7 @@ struct NeededParts {
     is_needed: Vec<bool>,
     /// The needed lines in the order in which they are needed.
     lines: Vec<u32>,
-    /// For each needed line its number in the text.
+    /// For each needed line its number in the text. They count from 1, in the order of the text; of other lines it is `NO_NUMBER`.
     line_numbers: Vec<u32>,
 }
 
@@ -68,6 +71,7 @@ impl OrderCertificate {
             line_numbers: vec![in alloc; NO_NUMBER; self.explanation.lines.count() as usize]?,
         };
         put(needed.is_needed.as_mut_slice(), self.last, true);
+        // A step rests on earlier ones alone, so one pass back finds all.
         for step in (0..steps).rev() {
             if at(needed.is_needed.as_slice(), step, false) {
                 for hint in self.explanation.steps.hints(step) {
@@ -99,6 +103,7 @@ impl OrderCertificate {
         for line in needed.lines.as_slice() {
             text.add_line(self.explanation.lines.line(*line))?;
         }
+        // With one hint the clause of that line is empty itself, and a text ends with it.
         if size(self.explanation.steps.hints(self.last)) > 1 {
             self.add_derivation(alloc, &needed, &mut text)?;
         }
@@ -113,6 +118,7 @@ impl OrderCertificate {
         text: &mut CertificateText<'_>,
     ) -> Result<(), AllocError> {
         text.begin_derivation()?;
+        // Steps are numbered behind the lines.
         let mut number = size(needed.lines.as_slice());
         let mut numbers = vec![in alloc; NO_NUMBER; needed.is_needed.len()]?;
         for step in 0..self.last.saturating_add(1) {

@@ -59,6 +59,7 @@ impl Drop for OrderFacts {
     }
 }
 
+/// The slot in which a fact of these two operations is kept, whatever its time. The factors are odd numbers that scatter neighbours.
 fn slot_of(question: WayQuestion) -> u32 {
     let mixed = question
         .first
@@ -127,7 +128,8 @@ impl OrderFacts {
         size(self.ways.as_slice())
     }
 
-    /// Adds the fact that answers the question by the pairs from this place on.
+    /// Adds the fact that answers the question by the pairs from this place on. The pairs from `begin` on are those that `add_pair` has added since the
+    /// fact before it.
     pub(crate) fn add(&mut self, question: WayQuestion, begin: u32) -> Result<u32, AllocError> {
         let fact = size(self.facts.as_slice());
         let end = self.end();

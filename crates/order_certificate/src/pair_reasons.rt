@@ -59,7 +59,7 @@ impl Explanation {
         self.finish_line()
     }
 
-    /// Finishes the line with the piece that takes all other sources.
+    /// Finishes the line with the piece that takes all other sources. The letter is `H` or `L`, and the operation the one that the piece names.
     fn finish_main(
         &mut self,
         letter: u8,
@@ -79,6 +79,7 @@ impl Explanation {
     ) -> Result<Option<DerivationHint>, AllocError> {
         self.begin_sources(order, reader, pair.time)?;
         for run in 0..size(self.lows.as_slice()) {
+            // The first source that was left stands before the others of its interval, so it is enough to ask for it; likewise the last one in `ask_after`.
             let source = self.first_left(order, run);
             if source != NOBODY && source != pair.first {
                 self.ask(order, pair.first, source, pair.time)?;

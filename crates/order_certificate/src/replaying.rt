@@ -1,4 +1,7 @@
 //! Certificates of what the engine has refuted.
+//!
+//! A clause that comes out here has the number of its step in `clause_steps`, so clauses and these steps are always added together. Those that are left
+//! out have none, so later clauses have other numbers than in the walk.
 
 use crate::explanation::Explanation;
 use crate::order_certificate::OrderCertificate;
@@ -165,10 +168,11 @@ impl ClauseReplay {
                 Replayed::Refuted(step) => return Ok(step),
             }
         }
+        // Without a conflict the log may still be refuted by operations that are stuck before any decision.
         self.explain(order, false, &[])
     }
 
-    /// Does the same with the clauses of the core alone.
+    /// Does the same with the clauses of the core alone. Reading operations that the core does not name are not looked at.
     fn derive_needed(
         &mut self,
         order: &mut Propagation<'_>,
@@ -205,6 +209,7 @@ impl ClauseReplay {
         let literals = learning.clauses.literals(number);
         let named = learning.analysis.named_by(number);
         let near = last_literal(order.log(), literals).ahead(NEAR);
+        // The fronts stay at the first operations here, so a place of a process is the number of places in reach.
         order.set_reach(near.number());
         let mut step = self.find_step(order, literals, named)?;
         if step.is_none() {
@@ -230,7 +235,8 @@ impl ClauseReplay {
     }
 
     /// Derives the clause from the conflict that its literals make when they are all turned round, which may take a further look at these
-    /// readers. Returns its step; none if there is no such conflict.
+    /// readers. Returns its step; none if there is no such conflict. The decisions that turn literals round are taken back at the end, when the step is
+    /// made.
     fn find_step(
         &mut self,
         order: &mut Propagation<'_>,
@@ -328,6 +334,7 @@ impl ClauseReplay {
         let clause = self.clauses.count().wrapping_sub(1);
         let before = order.pairs().count();
         let mut has_conflict = false;
+        // A clause of one literal has a pair to add at once; the others are looked at by `follow`.
         if size(literals) == 1 {
             has_conflict = add_unit(order, literals, clause)?;
         }
@@ -361,7 +368,7 @@ fn add_unit(
     Ok(false)
 }
 
-/// Returns whether each literal is of operations of two processes: program order decides others.
+/// Returns whether each literal is of operations of two processes: program order decides others. A clause with a literal of one process gets no step.
 fn has_variables(log: &NumberedLog, literals: &[Literal]) -> bool {
     for literal in literals {
         if log.operation(literal.first).process == log.operation(literal.second).process {

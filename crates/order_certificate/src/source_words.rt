@@ -1,4 +1,6 @@
 //! Lines that a reader has a source, with the pieces that say of each lost source why it is none.
+//!
+//! Past the end of a table `at` reads as its last argument, and `put` does nothing; so arithmetic may wrap, and a wrong place makes no fault.
 
 use crate::explanation::Explanation;
 use numbered_log::{NO_NUMBER, NOBODY, NumberedLog, NumberedOrigin, OperationId, ProcessPlace};
@@ -14,7 +16,8 @@ struct BoundAt {
     cause: Option<LossCause>,
 }
 
-/// The bound at a time of which this is the last one, with this last loss.
+/// The bound at a time of which this is the last one, with this last loss. Losses at one end are a list, the last first, so each that is not older than the
+/// time is undone on the way.
 fn bound_at(order: &Propagation<'_>, last_bound: u32, last_loss: u32, time: Time) -> BoundAt {
     let mut bound = last_bound;
     let mut number = last_loss;
@@ -42,7 +45,7 @@ fn wants_initial(log: &NumberedLog, reader: OperationId) -> bool {
     log.initial(operation.location) == Some(operation.needed)
 }
 
-/// The last writer of the reader's location before it in its process, or `NOBODY`.
+/// The last writer of the reader's location before it in its process, or `NOBODY`. If it is there, the initial value was never a source.
 fn own_writer(log: &NumberedLog, reader: OperationId) -> OperationId {
     let operation = log.operation(reader);
     for place in (1..operation.place.number()).rev().map(ProcessPlace::new) {

@@ -34,7 +34,7 @@ impl Explanation {
         self.has_units && derived.pair != NO_NUMBER && order.pairs().pair(derived.pair).level == 0
     }
 
-    /// Derives each pair of no decision by a step of its own.
+    /// Derives each pair of no decision by a step of its own. The oldest pair comes first, since the steps of later ones name its step.
     fn derive_units(&mut self, order: &Propagation<'_>) -> Result<(), AllocError> {
         for number in (0..size(self.derived.as_slice())).rev() {
             let derived = at(self.derived.as_slice(), number, NOTHING_DERIVED);
@@ -87,6 +87,7 @@ impl Explanation {
     fn add_fact_hints(&mut self, order: &Propagation<'_>, number: u32) -> Result<(), AllocError> {
         let fact = self.facts.fact(number);
         for place in fact.begin..fact.end {
+            // A pair without a step of its own was derived earlier in this step, or is one that `is_assumed` names: its order is known by then.
             let step = self.marks.step(self.facts.pair(place));
             if step != NO_NUMBER {
                 self.hints.add(DerivationHint::Step(step))?;

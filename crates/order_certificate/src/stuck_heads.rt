@@ -1,4 +1,6 @@
 //! Operations of which none can come before the others: a conflict.
+//!
+//! Past the end of a table `at` reads as its last argument, and `put` does nothing; so arithmetic may wrap, and a wrong place makes no fault.
 
 use crate::explanation::Explanation;
 use numbered_log::{NO_NUMBER, NOBODY, OperationId, ProcessId, ProcessPlace};
@@ -13,6 +15,7 @@ pub(crate) struct StuckHeads {
     fronts: Vec<ProcessPlace>,
     /// The processes of a set of which no next operation can come before another of them.
     is_in_set: Vec<bool>,
+    /// Looks that are taken out of the budget when the set is found.
     looked: u64,
 }
 
@@ -45,6 +48,7 @@ impl StuckHeads {
         Ok(if is_stuck { Some(heads) } else { None })
     }
 
+    /// The place of the process's next operation.
     fn front(&self, process: ProcessId) -> ProcessPlace {
         at(self.fronts.as_slice(), process.number(), ProcessPlace::FAR)
     }
@@ -121,7 +125,7 @@ impl StuckHeads {
         false
     }
 
-    /// Returns whether the interval has a source that is placed.
+    /// Returns whether the interval has a source that is placed. The first source of the interval is the first of them to be placed, so it stands for all.
     fn has_placed(&self, order: &Propagation<'_>, number: OperationId, run: u32) -> bool {
         let low = order.sources().low(number, run);
         let writer = order.log().operation(order.classes().writer(low));
@@ -145,11 +149,13 @@ impl StuckHeads {
         if best == ProcessId::NONE {
             return Ok(false);
         }
+        // The set is that of the last process that was tried, so that of the best is grown once more.
         self.grow_from(alloc, order, best)?;
         Ok(true)
     }
 
-    /// Makes the set that of this process and of those that have to go on before one of the set can. Returns the number of its processes.
+    /// Makes the set that of this process and of those that have to go on before one of the set can. Returns the number of its processes. What was in the
+    /// set before is forgotten. An operation that reads nothing and is stuck has one that blocks it.
     fn grow_from(
         &mut self,
         alloc: Global,
@@ -194,6 +200,7 @@ impl StuckHeads {
         Ok(())
     }
 
+    /// Has the process join the set, and wait in `due` for its own turn, unless it is in the set.
     fn join(&mut self, process: ProcessId, due: &mut Vec<ProcessId>) -> Result<(), AllocError> {
         if !at(self.is_in_set.as_slice(), process.number(), true) {
             put(self.is_in_set.as_mut_slice(), process.number(), true);

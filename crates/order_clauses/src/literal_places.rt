@@ -11,6 +11,7 @@ use std::alloc::{AllocError, Global};
 /// earlier clauses need not be cleared.
 #[derive(Drop)]
 pub struct LiteralPlaces {
+    /// By `number_of` of the literal. It grows to the largest one that was put; 0 stands also for what was never put.
     places: Vec<usize>,
 }
 

@@ -23,7 +23,8 @@ impl OrderPair {
         }
     }
 
-    /// Returns whether the first operation comes before the second by the number of its process, and then by its place.
+    /// Returns whether the first operation comes before the second by the number of its process, and then by its place. Of a pair and its turned one just
+    /// one is rising, if its operations are two.
     pub fn is_rising(self) -> bool {
         self.first.process < self.second.process
             || (self.first.process == self.second.process && self.first.place < self.second.place)

@@ -12,7 +12,9 @@ use std::marker::Model;
 /// Pairs of operations, each with a variable: they are numbered from 1 in the order of their first use.
 #[derive(Drop)]
 pub struct OrderVariables {
+    /// The pair of variable v stands at place v - 1.
     pairs: Vec<OrderPair>,
+    /// For each pair its variable. It is compared with `pairs` before it is relied on.
     numbers: HashMap<OrderPair, u32>,
 }
 
@@ -112,6 +114,7 @@ impl OrderVariables {
         let Some(variable) = self.variable(pair)? else {
             return Ok(None);
         };
+        // This does not happen: `add` numbers from 1 up to the largest variable.
         if variable == 0 || variable > MAX_VARIABLE {
             return Ok(None);
         }

@@ -44,6 +44,7 @@ fn put_order(
     ensures always { IfOk result (λ outcome. outcome ≡ AlwaysTrue → (orders : List Order) → IsClauseOf variables.old orders literals.old.items → IsAlwaysTrue orders order) }
     ensures full { IfOk result (λ outcome. outcome ≡ TooManyVariables → AreFull variables.new) }
 {
+    // The makers of clauses leave out orders that program order denies (`push_order` of the crate `reason_clauses`), so program order has this one.
     if order.is_of_one_process() {
         return Ok(ClauseOutcome::AlwaysTrue);
     }
@@ -108,7 +109,7 @@ impl ReasonList {
         self.clauses.len()
     }
 
-    /// Appends the clause that one of the orders stands.
+    /// Appends the clause that one of the orders stands. If none is made, the pairs that it has numbered keep their variables.
     pub fn add(&mut self, alloc: Global, orders: &[OrderPair]) -> Result<ClauseOutcome, AllocError>
         ensures appended { IfOk result (λ outcome. outcome ≡ Made → IsAppended self.old self.new orders.now) }
         ensures none { IfOk result (λ outcome. orders.now ≡ [] → outcome ≡ Made) }
@@ -147,6 +148,7 @@ impl ReasonList {
             clauses,
             ..
         } = self;
+        // There are at most as many pairs as variables can be numbered, so this does not fail.
         let Ok(count) = u32::try_from(variables.pairs().len()) else {
             return Err(AllocError);
         };

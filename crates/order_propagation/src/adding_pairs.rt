@@ -1,4 +1,7 @@
 //! A new pair and the rows that it changes.
+//!
+//! Places of a process count from 1; `START` is before all of them and `FAR` behind. `rows.before(o, p)` is the place of the last operation of p that
+//! stands before o, or `START`, and `rows.after(o, p)` that of the first one that stands after it, or the place behind the last of p.
 
 use crate::conflict::{Conflict, Stop};
 use crate::propagation::Propagation;
@@ -7,7 +10,8 @@ use numbered_log::{LocationId, OperationId, ProcessId, ProcessPlace};
 use std::alloc::AllocError;
 
 impl<'a> Propagation<'a> {
-    /// Adds the pair of which the first operation must stand before the second. If the budget is spent, it is left out.
+    /// Adds the pair of which the first operation must stand before the second. If the budget is spent, it is left out, and so is a pair that the
+    /// rows have already. The rows of both operations have to be complete, and all news has to be noted, before the first row changes.
     pub fn add(
         &mut self,
         first: OperationId,
@@ -27,6 +31,8 @@ impl<'a> Propagation<'a> {
         }
         self.store(first, second, reason)?;
         self.rows.begin_pair(self.log, first, second)?;
+        // What stands after the second operation begins in each process at a ceiling: these rows are raised to the floors. What stands before the
+        // first one ends in each process at a floor: these rows are lowered to the ceilings.
         for number in 0..self.rows.ceilings() {
             let bound = self.rows.ceiling(number);
             self.raise_from(bound, first)?;
@@ -36,6 +42,7 @@ impl<'a> Propagation<'a> {
             self.lower_from(bound, second)?;
         }
         self.budget.spend(self.rows.width() as u64);
+        // Without room for a further change or pair there is no going on.
         if self.rows.is_full() || self.pairs.is_full() {
             self.budget.use_up();
         }
@@ -113,6 +120,7 @@ impl<'a> Propagation<'a> {
     #[inline(always)]
     fn raise_row(&mut self, number: OperationId) -> Result<(), AllocError> {
         let operation = self.log.operation(number);
+        // A reader of several sources is woken by anything new, and one that waits already by nothing, so for neither accesses are looked for.
         let is_quiet = operation.reads
             && self.sources.count(number) == 1
             && !self.agenda.waits(number);
@@ -132,8 +140,9 @@ impl<'a> Propagation<'a> {
         Ok(())
     }
 
-    /// Lowers what stands after this operation to what the pair says, and wakes the readers to which that is news: those of the operation, if an access of its location is
-    /// among what is new, since it may hide the operation from them. An operation that writes nothing has none, so for it accesses are not looked for.
+    /// Lowers what stands after this operation to what the pair says, and wakes the readers to which that is news: those of the operation, if an
+    /// access of its location is among what is new, since it may hide the operation from them. An operation that writes nothing has none, so for it
+    /// accesses are not looked for.
     #[inline(always)]
     fn lower_row(&mut self, number: OperationId) -> Result<(), AllocError> {
         let operation = self.log.operation(number);
@@ -158,7 +167,7 @@ impl<'a> Propagation<'a> {
         Ok(())
     }
 
-    /// Returns whether the process has an access of the location that hides sources, from one place up to another.
+    /// Returns whether the process has an access of the location that hides sources, from one place up to another, both included.
     #[inline(always)]
     fn is_accessed(
         &self,

@@ -7,15 +7,19 @@ use total_tables::{at, put, size};
 /// The readers that wait: all of a round in the order of their estimated places, so that most have their turn when what stands before them is
 /// known, and between them those that wait again.
 pub struct Agenda {
+    /// For each reader whether it waits or sleeps: `add` then does nothing.
     waits: Vec<bool>,
     /// The readers of the round.
     round: Vec<OperationId>,
+    /// The place in the round from which on readers have not had their turn.
     reached: u32,
     /// For each reader its place in the round, or `NO_NUMBER`.
     places: Vec<u32>,
-    /// Those that wait again, in a ring.
+    /// Those that wait again, in a ring. It has room for all readers, and each is in it once, so it is never overfull.
     again: Vec<OperationId>,
+    /// The slot of the ring from which the next reader is taken.
     first: u32,
+    /// The number of readers in the ring.
     count: u32,
 }
 
@@ -35,7 +39,7 @@ impl Drop for Agenda {
 }
 
 impl Agenda {
-    /// An agenda for this number of readers, of which none waits.
+    /// An agenda for this number of readers, operations and behind them final values, of which none waits.
     pub fn new(alloc: Global, readers: u32) -> Result<Agenda, AllocError> {
         Ok(Agenda {
             waits: vec![in alloc; false; readers as usize]?,
@@ -48,7 +52,7 @@ impl Agenda {
         })
     }
 
-    /// Has no reader wait.
+    /// Has no reader wait, and ends the round. One that sleeps goes on sleeping.
     pub fn clear(&mut self) {
         for _ in 0..size(self.waits.as_slice()) {
             if self.take().is_none() {
@@ -79,18 +83,19 @@ impl Agenda {
         put(self.waits.as_mut_slice(), reader.number(), true);
     }
 
+    /// Returns whether the reader waits or sleeps.
     #[inline(always)]
     pub fn waits(&self, reader: OperationId) -> bool {
         at(self.waits.as_slice(), reader.number(), false)
     }
 
-    /// Returns whether a reader waits again.
+    /// Returns whether a reader waits again. Those that have not had their turn in the round do not count.
     #[inline(always)]
     pub fn has_waiting(&self) -> bool {
         self.count != 0
     }
 
-    /// Has the reader wait.
+    /// Has the reader wait: for its turn in the round, if that is still to come, and else behind those that wait again.
     #[inline(always)]
     pub fn add(&mut self, reader: OperationId) {
         if self.waits(reader) {
@@ -110,7 +115,7 @@ impl Agenda {
         self.count = self.count.wrapping_add(1);
     }
 
-    /// Takes the next reader.
+    /// Takes the next reader. Those that wait again come before the rest of the round.
     pub fn take(&mut self) -> Option<OperationId> {
         if self.count > 0 {
             let reader = at(self.again.as_slice(), self.first, NOBODY);

@@ -1,4 +1,10 @@
 //! The loss of sources that have become impossible.
+//!
+//! Places of a process count from 1; `START` is before all of them and `FAR` behind. `rows.before(o, p)` is the place of the last operation of p that
+//! stands before o, or `START`, and `rows.after(o, p)` that of the first one that stands after it, or the place behind the last of p.
+//!
+//! Writers are sorted by their class, which is a location and a value, then by process and place. A position is a place in this table, from 0; a run is
+//! what one process has of a class. A reader has an interval of positions for each run of its class, numbered from 0, whose upper end is excluded.
 
 use crate::conflict::{Conflict, Stop};
 use crate::propagation::Propagation;
@@ -8,7 +14,8 @@ use std::alloc::AllocError;
 use total_tables::at;
 
 impl<'a> Propagation<'a> {
-    /// Takes from the reading operation the sources that are hidden or stand after it.
+    /// Takes from the reading operation the sources that are hidden or stand after it. The count is set at the end, since each loss notes the count
+    /// before it.
     pub(crate) fn narrow(&mut self, reader: OperationId) -> Result<(), Stop> {
         self.find_hiders(reader)?;
         let mut count: u32 = 0;
@@ -16,6 +23,7 @@ impl<'a> Propagation<'a> {
             count = count.wrapping_add(self.narrow_interval(reader, run)?);
         }
         if self.sources.has_initial(reader) {
+            // The initial value stands before all accesses, so any hider hides it.
             let hider = at(self.hiders.as_slice(), 0, NOBODY);
             if hider == NOBODY {
                 count = count.wrapping_add(1);
@@ -54,7 +62,8 @@ impl<'a> Propagation<'a> {
         Ok(())
     }
 
-    /// Narrows the interval, and returns how many sources are left in it.
+    /// Narrows the reader's interval of this number, counted from 0, and returns how many sources are left in it. Its ends are positions among the
+    /// writers of `classes`, and the upper one is behind its last source.
     fn narrow_interval(&mut self, reader: OperationId, run: u32) -> Result<u32, AllocError> {
         let mut low = self.sources.low(reader, run);
         let mut high = self.sources.high(reader, run);
@@ -79,7 +88,7 @@ impl<'a> Propagation<'a> {
         Ok(high.saturating_sub(low))
     }
 
-    /// The cause of a loss, at a new time.
+    /// The cause of a loss, at a new time: an explanation of the loss takes only what has earlier ones.
     pub(crate) fn cause_of(&mut self, writer: OperationId, witness: OperationId) -> LossCause {
         self.now = self.now.next();
         LossCause {
@@ -89,7 +98,8 @@ impl<'a> Propagation<'a> {
         }
     }
 
-    /// The place in the process up to which all stands before one of the hiders, and that hider.
+    /// The place in the process up to which all stands before one of the hiders, and that hider; `START` and `NOBODY` if there is none. A hider does
+    /// not hide itself: it may be a writer of the value.
     fn hidden_up_to(&mut self, process: ProcessId) -> (ProcessPlace, OperationId) {
         let mut floor = ProcessPlace::START;
         let mut witness = NOBODY;
@@ -111,7 +121,8 @@ impl<'a> Propagation<'a> {
         self.log.operation(self.classes.writer(position)).place
     }
 
-    /// The first position, from one up to another of a run, whose writer stands behind this place.
+    /// The first position, from one up to another of a run, whose writer stands behind this place, or the end. Positions have 32 bits, so 32
+    /// halvings are enough.
     fn first_behind(&self, begin: u32, end: u32, place: ProcessPlace) -> u32 {
         let mut low = begin;
         let mut high = end;

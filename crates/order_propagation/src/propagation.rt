@@ -4,7 +4,7 @@ use crate::agenda::Agenda;
 use crate::conflict::{Conflict, Propagated, Stop};
 use crate::reach::Reach;
 use closed_rows::{ClosedRows, NO_PAIR, OrderedPair, OrderedPairs, PairReason};
-use numbered_log::{Budget, LocationId, NO_NUMBER, NOBODY, NumberedLog, OperationId, ProcessPlace};
+use numbered_log::{Budget, LocationId, NOBODY, NumberedLog, OperationId, ProcessPlace};
 use possible_sources::{HidingAccesses, ReaderClasses, SourceIntervals, Time, ValueClasses};
 use std::alloc::{AllocError, Global};
 use total_tables::{at, put, size};
@@ -16,13 +16,6 @@ struct DecisionLevel {
     losses: u32,
     pairs: u32,
 }
-
-/// No decision.
-const NO_LEVEL: DecisionLevel = DecisionLevel {
-    changes: 0,
-    losses: 0,
-    pairs: NO_NUMBER,
-};
 
 /// A point of the trail without decisions, to which it can be cut. The rows then have to be made anew, since their changes are kept only
 /// while decisions stand.
@@ -45,16 +38,19 @@ pub struct Propagation<'a> {
     pub(crate) agenda: Agenda,
     pub(crate) budget: Budget,
     pub(crate) conflict: Conflict,
+    /// The time of what was derived last.
     pub(crate) now: Time,
+    /// For each decision that stands the lengths before it.
     levels: Vec<DecisionLevel>,
-    /// For each operation whether it is a possible source of a reader that has several.
+    /// For each operation whether it was a possible source of a reader that has several, when the last round began.
     pub(crate) is_open_source: Vec<bool>,
     /// For each operation whether the final value of its location has to be looked at when its row changes.
     pub(crate) is_near_end: Vec<bool>,
     /// The accesses that hide sources from the reader at hand, one of each process.
     pub(crate) hiders: Vec<OperationId>,
-    /// For each process a place: up to which all is before the reader at hand, and after which all is behind its sources.
+    /// For each process the place up to which all stands before each source of the reader at hand, and so before the reader.
     pub(crate) lows: Vec<ProcessPlace>,
+    /// For each process the place from which on all stands after each of these sources.
     pub(crate) highs: Vec<ProcessPlace>,
     pub(crate) reach: Reach,
 }
@@ -166,7 +162,8 @@ impl<'a> Propagation<'a> {
         Ok(())
     }
 
-    /// Notes which operations are near the end of a process, for the final values.
+    /// Notes which operations are near the end of a process, for the final values: of each known one its possible last writers, and in each process
+    /// the last access of its location that is no read of it. It is looked at again when more stands after one of these.
     fn note_ends(&mut self) {
         let log = self.log;
         for location in log.location_ids() {
@@ -331,12 +328,6 @@ impl<'a> Propagation<'a> {
         Ok(())
     }
 
-    /// The pair that was decided as the decision of this number, counted from 1.
-    pub fn decision(&self, number: u32) -> OrderedPair {
-        let level = at(self.levels.as_slice(), number.wrapping_sub(1), NO_LEVEL);
-        self.pairs.pair(level.pairs)
-    }
-
     /// Backtracks to the first decisions, of which this number stays, and undoes all that followed from the others.
     pub fn take_back(&mut self, decisions: u32) {
         for _ in decisions..self.decisions() {
@@ -421,7 +412,9 @@ impl<'a> Propagation<'a> {
         }
     }
 
+    /// Looks at readers until none waits. A reader that is taken when the budget is spent is not looked at: the caller then forgets all.
     fn look_at_waiting(&mut self) -> Result<(), Stop> {
+        // Each look spends steps, so there are no more looks than steps.
         for _ in 0..self.budget.left() {
             let Some(reader) = self.agenda.take() else {
                 break;

@@ -1,4 +1,7 @@
 //! Readers that are too far from what a walk places next to be looked at.
+//!
+//! Places of a process count from 1; `START` is before all of them and `FAR` behind. `rows.before(o, p)` is the place of the last operation of p that
+//! stands before o, or `START`, and `rows.after(o, p)` that of the first one that stands after it, or the place behind the last of p.
 
 use crate::propagation::Propagation;
 use closed_rows::RowEntry;
@@ -40,11 +43,13 @@ impl Reach {
         self.front(process).ahead(self.width)
     }
 
+    /// Returns whether the operation lies behind the last place in reach.
     #[inline(always)]
     fn is_ahead(&self, operation: Operation) -> bool {
         operation.place > self.last(operation.process)
     }
 
+    /// Returns whether the operation lies further before its front than the reach is wide.
     #[inline(always)]
     fn is_behind(&self, operation: Operation) -> bool {
         operation.place.ahead(self.width) < self.front(operation.process)
@@ -83,6 +88,7 @@ impl<'a> Propagation<'a> {
         }
         let number = self.log.number(process, last);
         let operation = self.log.operation(number);
+        // While it was out of reach its row was left as it was. That of the one before it is complete.
         if last > ProcessPlace::FIRST {
             self.raise_to_earlier(number, number.previous())?;
         }
@@ -182,7 +188,7 @@ impl<'a> Propagation<'a> {
         self.reach.width != 0 && self.decisions() != 0
     }
 
-    /// Returns whether readers wait for a look.
+    /// Returns whether readers wait for a look. Those of a round do not count: when `propagate` has ended, all of them have had their turn.
     pub fn has_waiting(&self) -> bool {
         self.agenda.has_waiting()
     }

@@ -1,4 +1,7 @@
 //! What a reader says of the order.
+//!
+//! Places of a process count from 1; `START` is before all of them and `FAR` behind. `rows.before(o, p)` is the place of the last operation of p that
+//! stands before o, or `START`, and `rows.after(o, p)` that of the first one that stands after it, or the place behind the last of p.
 
 use crate::conflict::{Conflict, Stop};
 use crate::propagation::Propagation;
@@ -88,7 +91,7 @@ impl<'a> Propagation<'a> {
         Ok(())
     }
 
-    /// Adds that the process's operation at this place stands after the reader, unless it is the reader or there is none.
+    /// Adds that the process's operation at this place stands after the reader, unless it is the reader, there is none, or the rows say so.
     fn add_behind(
         &mut self,
         reader: OperationId,
@@ -109,9 +112,11 @@ impl<'a> Propagation<'a> {
     fn find_common(&mut self, reader: OperationId) {
         let has_initial = self.sources.has_initial(reader);
         for process in ProcessId::first(self.rows.width()) {
+            // This is for no source: each run of sources then lowers the one and raises the other.
             let mut low = ProcessPlace::FAR;
             let mut high = ProcessPlace::START;
             if has_initial {
+                // Nothing stands before the initial value, and each operation after it.
                 low = ProcessPlace::START;
                 high = ProcessPlace::FIRST;
             }

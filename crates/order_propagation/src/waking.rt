@@ -1,4 +1,7 @@
 //! Which readers a changed row may say something new to.
+//!
+//! Writers are sorted by their class, which is a location and a value, then by process and place. A position is a place in this table, from 0; a run is
+//! what one process has of a class. A reader has an interval of positions for each run of its class, numbered from 0, whose upper end is excluded.
 
 use crate::propagation::Propagation;
 use numbered_log::{NOBODY, Operation, OperationId, ProcessId};
@@ -27,7 +30,7 @@ impl<'a> Propagation<'a> {
         }
     }
 
-    /// More stands before the operation.
+    /// Wakes the readers to which it may be news that more stands before the operation: itself, if it reads, and those that may read from it.
     #[inline(always)]
     pub(crate) fn wake_raised(
         &mut self,
@@ -46,7 +49,7 @@ impl<'a> Propagation<'a> {
         }
     }
 
-    /// More stands after the operation.
+    /// Wakes the readers to which it may be news that more stands after the operation: the same, and the final value of its location.
     #[inline(always)]
     pub(crate) fn wake_lowered(
         &mut self,
@@ -120,6 +123,7 @@ impl<'a> Propagation<'a> {
         self.budget.spend(24);
         for _ in position..end {
             let (low, high) = self.ends_at(position, writer);
+            // An interval that has the writer at neither end ends the first run. An empty one does so only if it begins behind the writer.
             if low > own || (low < high && high.wrapping_sub(1) != own && low != own) {
                 break;
             }
@@ -140,7 +144,8 @@ impl<'a> Propagation<'a> {
         }
     }
 
-    /// The first position whose reader has no source before this one in the writer's run.
+    /// The first position, from one up to another, whose reader has no source before the writer in its run, or the end. `own` is the position of the
+    /// writer.
     fn first_low(&self, begin: u32, end: u32, writer: OperationId, own: u32) -> u32 {
         let mut low = begin;
         let mut high = end;
@@ -158,7 +163,7 @@ impl<'a> Propagation<'a> {
         low
     }
 
-    /// The ends of the interval in which the writer may stand, of the reader at this position.
+    /// The ends of the interval in which the writer may stand, of the reader at this position. The upper one is behind its last source.
     #[inline(always)]
     fn ends_at(&self, position: u32, writer: OperationId) -> (u32, u32) {
         let reader = self.readers.reader(position);

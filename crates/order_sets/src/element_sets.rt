@@ -24,14 +24,14 @@ fn bit(element: u32) -> u64 {
 }
 
 /// Returns the place of the element's word in the set of its owner. The distance of two sets is a constant and not `words`, since this is
-/// computed at every look at a set.
+/// computed at every look at a set. Elements are below 192: a larger one would have its word in the set of the next owner.
 #[inline(always)]
 fn word_of(owner: u32, element: u32) -> u32 {
     owner.wrapping_mul(WORDS).wrapping_add(element >> 6)
 }
 
-/// Removes the first element from a word of a set, if it has one, and returns it. A word has 64 at most, so callers loop over it by a `for`
-/// of 64 turns, which needs no measure to be proved to end.
+/// Removes the first element from a word of a set, if it has one, and returns it. The number is that of the word in its set, counted from 0. A word
+/// has 64 at most, so callers loop over it by a `for` of 64 turns, which needs no measure to be proved to end.
 #[inline(always)]
 pub fn next_element(word: &mut u64, number: u32) -> Option<u32> {
     let left = *word;
@@ -58,6 +58,7 @@ impl ElementSets {
         self.words
     }
 
+    /// Returns the word of this number of the owner's set, counted from 0: it has the elements from 64 times the number on.
     #[inline(always)]
     pub fn word(&self, owner: u32, number: u32) -> u64 {
         at(
@@ -107,7 +108,7 @@ impl ElementSets {
         self.count_below(owner, MAX_ELEMENTS)
     }
 
-    /// Returns the number of elements of the owner's set that have a smaller number than this one.
+    /// Returns the number of elements of the owner's set that have a smaller number than this one, which may be 192 too: then all are counted.
     pub fn count_below(&self, owner: u32, element: u32) -> u32 {
         let mut count: u32 = 0;
         for number in 0..self.words {

@@ -82,7 +82,8 @@ impl OrderMatrix {
         self.elements
     }
 
-    /// Returns the literal that says that the one stands before the other.
+    /// Returns the literal that says that the one stands before the other. They must be two different elements: of one with itself the number would be 0 or
+    /// that of another pair.
     #[inline(always)]
     pub fn literal(&self, a: u32, b: u32) -> u32 {
         let bases = self.bases.as_slice();
@@ -128,7 +129,7 @@ impl OrderMatrix {
         self.count = self.count.wrapping_add(1);
     }
 
-    /// Puts a before all elements that stand after b and not yet after a, over b.
+    /// Puts a before all elements that stand after b and not yet after a, over b. The literal that a stands before b must be known or recorded by now.
     #[inline(always)]
     fn inherit_behind(&mut self, a: u32, b: u32) {
         for w in 0..self.successors.words() {
@@ -146,7 +147,8 @@ impl OrderMatrix {
     }
 
     /// Adds the pair (a, b) and closes the order incrementally: all of a and its predecessors come before all of b and its successors. New
-    /// literals are in `implied`, each after those from which it follows, since hints of a proof must name what is known already.
+    /// literals are in `implied`, without that of the pair itself, each after those from which it follows, since hints of a proof must name what is
+    /// known already.
     /// Precondition (not checked): b is not before a.
     pub fn add(&mut self, a: u32, b: u32) {
         self.count = 0;

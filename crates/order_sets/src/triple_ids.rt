@@ -10,7 +10,10 @@ use total_tables::{at, put};
 #[derive(Drop)]
 pub struct TripleIds {
     first: u32,
+    /// For each i the number of triples that begin below i, less that of the pairs (j, k) with j up to i, which `middle` counts and which do not
+    /// come behind i. This may wrap below 0; the sum with an entry of `middle` does not.
     smallest: Vec<u32>,
+    /// For each element the number of pairs (j, k) with j below it and k above j.
     middle: Vec<u32>,
 }
 
@@ -36,7 +39,7 @@ impl TripleIds {
         })
     }
 
-    /// Returns the number of the clause of i below j below k that has one negative literal or two.
+    /// Returns the number of the clause of i below j below k that has two negative literals, or with 1 instead of 0 that of the one which has one.
     fn of_triple(&self, i: u32, j: u32, k: u32, one_negative: u32) -> u32 {
         let triple = at(self.smallest.as_slice(), i, 0)
             .wrapping_add(at(self.middle.as_slice(), j, 0))

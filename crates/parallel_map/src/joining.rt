@@ -60,7 +60,8 @@ fn joined<I, T: Drop, F: Fn(&I) -> T>(
     Ok(found)
 }
 
-/// The result at an item: the one that was found, or else what the function returns.
+/// The result at an item: the one that was found, or else what the function returns. In a run the
+/// function is called here only if there was no worker: workers leave no item out, but no contract says so.
 fn settled<I, T: Drop, F: Fn(&I) -> T>(item: &I, found: Option<T>, f: &F) -> T
     requires f { F.IsAlwaysCallable f.now }
     requires found { IfSome found (FnReturnsAt F.Fn f.now item.now) }

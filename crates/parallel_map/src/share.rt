@@ -15,7 +15,8 @@ pub(crate) struct Done<T> {
     pub(crate) result: T,
 }
 
-/// Takes one item after the other, until none is left: the counter is the place of the next one. Returns the results at those that it took.
+/// Takes one item after the other, until none is left: the counter is the place of the next one. Returns the results at those that it took. No
+/// worker takes more than all items, which bounds the loop. The counter goes past the number of items, by one for each worker that finds none left.
 pub(crate) fn share_of<I, T: Drop, F: Fn(&I) -> T>(
     alloc: Global,
     items: &[I],

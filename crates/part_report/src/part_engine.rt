@@ -45,7 +45,8 @@ pub fn run_part<T: Source, N: Source, W: Sink>(
     put_part(alloc, &part, shows_names, out)
 }
 
-/// The part of the trace that the first text spells, of the operations that the second one names.
+/// The part of the trace that the first text spells, of the operations that the second one names. The trace is read first, since its size says
+/// how many names there may be, and how large their places.
 fn part_of_texts(alloc: Global, trace_text: &[u8], names_text: &[u8]) -> Result<TracePart, Fault>
     ensures { IsSaidOfChoice trace_text.now names_text.now result }
 {

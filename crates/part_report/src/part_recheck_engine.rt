@@ -52,7 +52,8 @@ pub fn run_part_recheck<T: Source, C: Source, N: Source, W: Sink>(
     write_count(alloc, count, out)
 }
 
-/// Of how many cubes the certificate is that the second text spells, and that refutes the part of the trace of the first.
+/// Of how many cubes the certificate is that the second text spells, and that refutes the part of the trace of the first. The order of the
+/// texts is that of the refusals; the part is made here from the names, so that no text says what it is.
 fn recheck_part(
     alloc: Global,
     trace_text: &[u8],

@@ -21,7 +21,7 @@ fn is_passed_over(line: &[u8]) -> bool
 }
 
 /// The number, counted from 1, of the line that has this place among the lines that say something. A reader of names counts those
-/// alone, and a fault is reported by its line.
+/// alone, and a fault is reported by its line. The place counts from 1 too; if there is no such place, this is the number of lines.
 pub fn line_of_place(text: &[u8], place: usize) -> usize
     ensures { 1 ≤ place → place ≤ length (kept (lines_of text.now)) → StandsAt text.now place result }
 {

@@ -16,7 +16,7 @@ use trace_semantics::schedule::Schedule;
 use trace_semantics::trace::Trace;
 
 /// The part of the trace that the operations of these names make up, which were read from the text. The error has the line of the
-/// first name that is not of the trace or stands there before.
+/// first name that is not of the trace or stands there before, while `part_of` reports the place among the names, from 1.
 pub fn named_part(
     alloc: Global,
     trace: &Trace,

@@ -15,7 +15,7 @@ use trace_text::trace_writer::{
     push_entries, push_op, push_pairs, push_wanted_header, write_trace,
 };
 
-/// Appends the comment with the name of an operation.
+/// Appends the comment with the name of an operation, as `# P.3` for the third one of the process P.
 fn push_name_comment(text: &mut Vec<u8>, process: &Name, place: u32) -> Result<(), AllocError>
     ensures { OnOk result (text.new.items ≡ text.old.items ++ line_text (name_comment (record { process = process.now; place = place }))) }
 {
@@ -28,7 +28,7 @@ fn push_name_comment(text: &mut Vec<u8>, process: &Name, place: u32) -> Result<(
     Ok(())
 }
 
-/// The place of this number, counted from 0, if there is one.
+/// The entry of this number, counted from 0, if there is one. The entry itself is a place in the whole trace's process, from 1.
 fn place_at(places: &[u32], k: usize) -> Option<u32>
     ensures { result ≡ slice_get places.now k }
 {
@@ -57,7 +57,7 @@ fn push_named_op(
     }
 }
 
-/// Appends the operations of a process, which have these places in the whole.
+/// Appends the operations of a process, which have these places in the whole, the k-th place for the k-th operation.
 fn push_named_ops(
     text: &mut Vec<u8>,
     process: &Name,
@@ -97,7 +97,8 @@ fn push_named_processes(text: &mut Vec<u8>, part: &TracePart) -> Result<(), Allo
     Ok(())
 }
 
-/// Appends the lines after the header, with a comment before each operation, which has its name in the whole.
+/// Appends the lines after the header, with a comment before each operation, which has its name in the whole. Without the comments they are
+/// the lines of the trace's canonical text, in the same order.
 fn push_named_body(text: &mut Vec<u8>, part: &TracePart) -> Result<(), AllocError>
     ensures { OnOk result (text.new.items ≡ text.old.items ++ flat_map line_text (named_body part.now)) }
 {

@@ -13,9 +13,9 @@ const MOST_EXCLUDED: usize = 16;
 /// The look of an arrow.
 #[derive(Clone, Copy)]
 pub(crate) struct ArrowStyle {
-    /// The class of its line.
+    /// The class of its line. One without a rule `path.CLASS` in `style.rt` is drawn solid.
     pub class: &'static [u8],
-    /// The colour of its line, and the name of its head.
+    /// The colour of its line, and the name of its head: one of `HEADS` in `style.rt`, since another name has neither colour nor head.
     pub colour: &'static [u8],
 }
 
@@ -65,12 +65,13 @@ pub(crate) const EXCLUDED: ArrowStyle = ArrowStyle {
     colour: b"orange",
 };
 
-/// Returns whether operations between the two boxes of a process are left out.
+/// Returns whether operations between the two boxes of a process are left out. Of boxes of two processes, or of a value, it says nothing, and
+/// is used for program order alone.
 pub(crate) fn skips_between(first: &PictureItem<'_>, second: &PictureItem<'_>) -> bool {
     first.number.place.saturating_add(1) < second.number.place
 }
 
-/// Begins a path of this style.
+/// Begins a path of this style. The caller adds its places, from the first one on, and ends the tag.
 pub(crate) fn begin_path(svg: &mut SvgText, style: ArrowStyle) {
     svg.add(&[
         b"<path class=\"",
@@ -154,7 +155,8 @@ impl ArrowPage<'_, '_> {
         }
     }
 
-    /// Draws the arrow, with the number of its sentence, if it has one.
+    /// Draws the arrow, with the number of its sentence, if it has one. The halo comes first, as what is drawn later covers what was drawn
+    /// before.
     fn draw_arrow(
         &mut self,
         alloc: Global,
@@ -175,7 +177,7 @@ impl ArrowPage<'_, '_> {
         Ok(())
     }
 
-    /// Draws all arrows of the order.
+    /// Draws all arrows of the order. Those that are derived have numbers from 1, by the same count as `ReasonLines::add_orders` gives sentences.
     pub fn draw_arrows(
         &mut self,
         alloc: Global,

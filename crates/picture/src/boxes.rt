@@ -16,7 +16,8 @@ fn class_of_shortage(found: &FoundOrder, number: usize) -> Option<&'static [u8]>
     }
 }
 
-/// The class of the box of this number.
+/// The class of the box of this number, the first that fits: what a contradiction says of it goes before what it is. `style.rt` has the rules;
+/// `operation` has none of its own.
 fn class_of(found: &FoundOrder, item: &PictureItem<'_>, number: usize) -> &'static [u8] {
     if found.is_lacking(number) {
         b"lacking"
@@ -64,6 +65,7 @@ fn draw_box(
     svg.attribute(b"height", edges.height());
     svg.add(&[b"/>\n"]);
     let text = BoxText::of(alloc, item, names, has_position)?;
+    // Letters of 12 pixels stand in the middle if their base line is 4 below it.
     let baseline = edges.middle().saturating_add(4);
     draw_text(svg, &text, edges.center(), baseline);
     Ok(())

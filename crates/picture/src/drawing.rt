@@ -18,7 +18,7 @@ use trace_semantics::trace::Trace;
 /// The least width of a picture, which the legend needs.
 const LEAST_WIDTH: u64 = 600;
 
-/// The height of a sentence.
+/// The height of a sentence, in pixels.
 const SENTENCE_STEP: u64 = 18;
 
 /// What is drawn, but for its places.
@@ -112,7 +112,7 @@ impl Content<'_, '_> {
         }
     }
 
-    /// Draws a band behind every other row.
+    /// Draws a band behind every other row, which begins 6 pixels above the boxes: rows of a schedule are 12 pixels apart.
     fn draw_bands(&self, svg: &mut SvgText, placement: &Placement<'_>, width: u64) {
         for half in 0..placement.rows.saturating_add(1) / 2 {
             let row = half.saturating_mul(2);
@@ -124,7 +124,7 @@ impl Content<'_, '_> {
         }
     }
 
-    /// Draws the arrows.
+    /// Draws the arrows. Those from sources that are excluded come first, so that the others cover them and not the other way round.
     fn draw_arrows(
         &self,
         alloc: Global,
@@ -141,7 +141,7 @@ impl Content<'_, '_> {
         page.draw_arrows(alloc, self.items, self.found)
     }
 
-    /// Draws boxes and arrows.
+    /// Draws boxes and arrows. Boxes come last, and cover what of an arrow lies below them.
     fn draw_body(
         &self,
         alloc: Global,
@@ -168,10 +168,12 @@ impl Content<'_, '_> {
         let placement = Placement::of(alloc, self.items, self.trace, self.names, is_schedule)?;
         let entries = LegendEntries::of(self.trace, self.items, self.found, is_schedule);
         let reasons = ReasonLines::of(alloc, self.items, self.found, self.names)?;
+        // From top to bottom: the boxes, the legend, the sentences. The numbers are the free space between them.
         let legend = placement.bottom().saturating_add(20);
         let words = legend.saturating_add(entries.count().saturating_mul(LEGEND_STEP));
         let sentences = reasons.lines.len() as u64;
         let height = words.saturating_add(sentences.saturating_mul(SENTENCE_STEP));
+        // To the right of the last column lines down take 63 of the 72 pixels. A character of a sentence is taken to have 6.5 pixels.
         let width = placement
             .right
             .saturating_add(MARGIN * 3)

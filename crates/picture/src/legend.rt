@@ -10,7 +10,7 @@ use trace_semantics::trace::Trace;
 /// The height of a line of the legend.
 pub(crate) const LEGEND_STEP: u64 = 22;
 
-/// What occurs in a picture, and what of it the legend has.
+/// What occurs in a picture, and what of it the legend has. The last three fields choose words, and have no line of their own.
 #[derive(Clone, Copy)]
 pub(crate) struct LegendEntries {
     program: bool,
@@ -93,7 +93,8 @@ impl LegendEntries {
         entries
     }
 
-    /// The number of lines of the legend.
+    /// The number of lines of the legend, by which `draw` leaves room. It has to count what `draw_legend` draws: `shortage` stands twice, as
+    /// it has two lines.
     pub fn count(&self) -> u64 {
         let mut count: u64 = 0;
         for is_there in [
@@ -120,6 +121,7 @@ impl LegendEntries {
 /// The lines of a legend as they are drawn.
 #[derive(Clone, Copy)]
 struct LegendLine {
+    /// The height of the middle of the next line, in pixels.
     y: u64,
 }
 
@@ -151,7 +153,7 @@ impl LegendLine {
         self.end(svg, words);
     }
 
-    /// Draws a box of this class, and what it means.
+    /// Draws a box of this class, one of those of boxes in `style.rt`, and what it means.
     fn sample(&mut self, svg: &mut SvgText, class: &[u8], words: &[u8]) {
         svg.add(&[b"<rect class=\"", class, b"\" rx=\"4\""]);
         svg.at(MARGIN, self.y.saturating_sub(8));
@@ -162,7 +164,7 @@ impl LegendLine {
     }
 }
 
-/// The words for arrows of the known order, by what the trace says of it.
+/// The words for arrows of the known order, by what the trace says of it. There are such arrows only if it has before lines or times.
 fn known_words(entries: &LegendEntries) -> &'static [u8] {
     if !entries.has_times {
         b"known order: what before lines say of the operations that are drawn"

@@ -7,7 +7,7 @@ use crate::svg_text::SvgText;
 use note_text::decimal;
 use std::alloc::{AllocError, Global};
 
-/// The size of such a picture.
+/// The size of such a picture, in pixels.
 const WIDTH: u64 = 640;
 
 const HEIGHT: u64 = 72;

@@ -13,7 +13,7 @@ pub(crate) struct BoxText {
     pub position: Vec<u8>,
     /// The name of the operation and a blank, as `P.2 `.
     pub name: Vec<u8>,
-    /// The operation as its line in the trace, as `R x 0`, or a value, as `x = 0`.
+    /// The operation as its line in the trace but for its times, as `R x 0`, or a value, as `x = 0`.
     pub words: Vec<u8>,
 }
 
@@ -55,7 +55,7 @@ fn append_access(
     append(text, &[letter, b" ", location, b" ", value.as_slice()])
 }
 
-/// Appends the operation as its line in a trace.
+/// Appends the operation as its line in a trace, but for its times.
 fn append_operation(text: &mut Vec<u8>, op: &Op, names: ShownNames<'_>) -> Result<(), AllocError> {
     match op {
         Op::Read {
@@ -87,7 +87,7 @@ fn append_operation(text: &mut Vec<u8>, op: &Op, names: ShownNames<'_>) -> Resul
     }
 }
 
-/// Appends a location and its value.
+/// Appends a location and its value: an initial one is left, a final one is read.
 fn append_value(text: &mut Vec<u8>, item: &PictureItem<'_>) -> Result<(), AllocError> {
     let value = match item.left {
         Some(left) => left,
@@ -127,7 +127,7 @@ impl BoxText {
         })
     }
 
-    /// The number of its characters.
+    /// The number of its characters, which are ASCII: names and numbers of a trace are.
     pub fn length(&self) -> u64 {
         let name = self.name.len() as u64;
         let words = self.words.len() as u64;

@@ -12,7 +12,7 @@ pub(crate) const MARGIN: u64 = 24;
 /// The height of a box.
 const BOX_HEIGHT: u64 = 26;
 
-/// From the top of the picture to the first row.
+/// From the top of the picture to the first row. The title, the note and the titles of the columns stand in it.
 const TOP: u64 = 104;
 
 /// A column of boxes.
@@ -67,12 +67,12 @@ impl BoxEdges {
     }
 }
 
-/// The width of this number of characters of the text in a box.
+/// The width of this number of characters of the text in a box, about 7.25 pixels each: the font of `.code` in `style.rt` has one width.
 pub(crate) fn text_width(characters: u64) -> u64 {
     characters.saturating_mul(29) / 4
 }
 
-/// The title of the column of this number.
+/// The title of the column of this number: 0 for initial values, then the processes, and behind them the final values.
 fn title_of(trace: &Trace, number: usize) -> &[u8] {
     if number == 0 {
         return b"initial";
@@ -83,7 +83,7 @@ fn title_of(trace: &Trace, number: usize) -> &[u8] {
     }
 }
 
-/// The width of the column, or 0 if it has no box.
+/// The width of the column, or 0 if it has no box. Titles count as texts of boxes, and 10 pixels are free on each side.
 fn width_of(
     alloc: Global,
     items: &[PictureItem<'_>],
@@ -106,7 +106,7 @@ fn width_of(
 }
 
 impl<'t> Placement<'t> {
-    /// The places of the boxes, of which those of operations have a position or not.
+    /// The places of the boxes. `has_position` says that they are of a schedule, where each operation has its position in front.
     pub fn of(
         alloc: Global,
         items: &[PictureItem<'t>],
@@ -115,6 +115,7 @@ impl<'t> Placement<'t> {
         has_position: bool,
     ) -> Result<Placement<'t>, AllocError> {
         let mut columns = Vec::new(alloc);
+        // Lines down take at most 63 pixels of the gap, and lines across 29 of the 34 between rows; see `Lanes`. A schedule has no lines across.
         let gap: u64 = if has_position { 72 } else { 96 };
         let mut left = MARGIN;
         let mut right = MARGIN;
@@ -158,7 +159,7 @@ impl<'t> Placement<'t> {
         }
     }
 
-    /// The column with boxes that stands next to the left of this one.
+    /// The column with boxes that stands next to the left of this one, or 0 if there is none. Each caller has a box further to the left.
     pub fn column_before(&self, column: usize) -> usize {
         let mut last = 0;
         for number in 0..self.columns.len().min(column) {
@@ -179,7 +180,7 @@ impl<'t> Placement<'t> {
         self.top_of_row(row).saturating_add(BOX_HEIGHT)
     }
 
-    /// The height of the columns' titles.
+    /// The height of the base line of the columns' titles.
     pub fn title_line(&self) -> u64 {
         TOP - 16
     }

@@ -9,7 +9,7 @@ use note_text::{GrowingText, decimal};
 use std::alloc::{AllocError, Global};
 use trace_semantics::operation::{Op, Origin};
 
-/// The most sentences below a picture.
+/// The most sentences below a picture. Further ones are left out without a word, be it the one on the contradiction itself, which comes last.
 const MOST_SENTENCES: usize = 20;
 
 /// The most sources that a sentence excludes one by one.
@@ -29,7 +29,7 @@ struct Told<'p, 't> {
     names: ShownNames<'p>,
 }
 
-/// The mark that stands before a reason, after this number of others.
+/// The mark that stands before a reason, after this number of others: the first one follows the words of the sentence.
 fn mark_before(others: usize) -> &'static [u8] {
     if others == 0 { b": " } else { b"; " }
 }
@@ -78,7 +78,7 @@ impl Told<'_, '_> {
         }
     }
 
-    /// Adds the location and the value that the box reads, as `x = 1`.
+    /// Adds the location and the value that the box reads, as `x = 1`. Each caller gives a box that reads.
     fn add_value(&self, text: &mut GrowingText, number: usize) {
         if let Some(item) = self.items.get(number) {
             let value = decimal(item.read.unwrap_or(0));
@@ -115,7 +115,8 @@ impl Told<'_, '_> {
         }
     }
 
-    /// Adds why the reader has no other source. Returns whether there was anything to say.
+    /// Adds why the reader has no other source. Returns whether there was anything to say. The sources that are not named one by one are
+    /// those past `MOST_NAMED` and those that are not drawn, of which only the number is known.
     fn add_exclusions(&self, text: &mut GrowingText, reader: usize) -> bool {
         let mut named: usize = 0;
         let mut more: u64 = 0;
@@ -244,7 +245,7 @@ impl Told<'_, '_> {
         text
     }
 
-    /// The sentence on the cycle that is marked.
+    /// The sentence on the cycle that is marked. Its first box stands at its end once more.
     fn sentence_of_cycle(&self, alloc: Global) -> Result<GrowingText, AllocError> {
         let boxes = cycle_of(alloc, self.found.arrows.as_slice())?;
         let mut text = GrowingText::new(alloc);
@@ -304,7 +305,8 @@ impl ReasonLines {
         Ok(())
     }
 
-    /// Adds the numbered sentences.
+    /// Adds the numbered sentences. `ArrowPage::draw_arrows` puts the same numbers at the arrows, so both have to count the same arrows in the
+    /// same order.
     fn add_orders(&mut self, alloc: Global, told: Told<'_, '_>) -> Result<(), AllocError> {
         let mut number: u64 = 0;
         for arrow in &told.found.arrows {
@@ -350,7 +352,7 @@ impl ReasonLines {
         Ok(reasons)
     }
 
-    /// The length of the longest sentence.
+    /// The length of the longest sentence, in characters. `draw` makes the picture wide enough for it.
     pub fn longest(&self) -> u64 {
         let mut longest: u64 = 0;
         for line in &self.lines {

@@ -5,7 +5,7 @@ use crate::svg_text::SvgText;
 use drawn_order::PictureItem;
 use std::alloc::{AllocError, Global};
 
-/// How far a corner is rounded.
+/// How far a corner is rounded, in pixels, as all lengths here.
 const CORNER: u64 = 7;
 
 /// How far above or below the middle of a line down a number stands.
@@ -40,14 +40,14 @@ pub(crate) struct Route {
     places: Vec<RoutePoint>,
 }
 
-/// How many arrows have taken the space beside each column, and below each row.
+/// How many arrows have taken the space to the right of each column, and below each row. Both are numbered from 0, as in `PictureItem`.
 #[derive(Drop)]
 pub(crate) struct Lanes {
     columns: Vec<u64>,
     rows: Vec<u64>,
 }
 
-/// The next number of the counter, which is raised.
+/// The next number of the counter, from 0, which is raised. A counter that is not there gives 0 each time: such lines lie on each other.
 fn next_of(counters: &mut Vec<u64>, number: usize) -> u64 {
     if number < counters.len() {
         let count = counters[number];
@@ -67,7 +67,8 @@ fn counters(alloc: Global, count: usize) -> Result<Vec<u64>, AllocError> {
     Ok(counters)
 }
 
-/// The number that lies nearer to the other, by this distance or by half of the way if that is less.
+/// The number that lies nearer to the other, by this distance or by half of the way if that is less: so the two corners of a short line do
+/// not overlap. With `u64::MAX` it is the middle.
 fn toward(from: u64, to: u64, distance: u64) -> u64 {
     if to >= from {
         from.saturating_add(distance.min((to - from) / 2))
@@ -114,11 +115,13 @@ impl Lanes {
         let rows = usize::try_from(placement.rows).unwrap_or(0);
         Ok(Lanes {
             columns: counters(alloc, placement.columns.len())?,
+            // `crossing_row` is below `rows`, so the last counter is spare.
             rows: counters(alloc, rows.saturating_add(1))?,
         })
     }
 
-    /// A line down, in the space to the right of the column.
+    /// The x of a line down, in the space to the right of the column. It lies at most 63 pixels from the column, within the gap that
+    /// `Placement::of` leaves and the margin that `draw` leaves behind the last column. From the 13th line on, lines lie on earlier ones.
     fn line_down(&mut self, placement: &Placement<'_>, column: usize) -> u64 {
         let count = next_of(&mut self.columns, column);
         let shift = (count % 6)
@@ -130,7 +133,8 @@ impl Lanes {
             .saturating_add(shift)
     }
 
-    /// A line across, in the space below the row.
+    /// The y of a line across, in the space below the row: 5 to 29 pixels below its boxes, of the 34 that a picture without a schedule has
+    /// there. In a schedule, whose rows are closer, there is no such line.
     fn line_across(&mut self, placement: &Placement<'_>, row: usize) -> u64 {
         let count = next_of(&mut self.rows, row);
         let shift = (count % 4).saturating_mul(8);
@@ -237,8 +241,8 @@ impl Route {
         Ok(Route { places })
     }
 
-    /// The way from the side of the one box to the side of the other. In the row of a schedule's operation no other box stands, so an
-    /// arrow crosses columns there.
+    /// The way from the side of the one box to the side of the other; between boxes of one column it leaves and comes in on the right. In the
+    /// row of a schedule's operation no other box stands but an initial value, left of all, so an arrow crosses columns there.
     pub fn beside(
         alloc: Global,
         placement: &Placement<'_>,
@@ -252,6 +256,7 @@ impl Route {
         let second = placement.edges_of(to);
         let start = exit_of(first, goes_right || from.column == to.column);
         let end = entry_of(second, goes_right);
+        // The columns to the right of which the first and the last line down run.
         let near_start = if goes_right || from.column == to.column {
             from.column
         } else {
@@ -271,7 +276,7 @@ impl Route {
         Route::by_three_lines(alloc, start, x, across, other, end)
     }
 
-    /// Adds the way to a path.
+    /// Adds the way to a path, behind the `M` of its `d`: each corner is a quadratic curve, from the line before it to the line after it.
     pub fn add_to(&self, svg: &mut SvgText) {
         for k in 0..self.places.len() {
             let place = self.places[k];
@@ -292,7 +297,8 @@ impl Route {
         }
     }
 
-    /// Its third line, or its second one if it has no more, on which words can stand.
+    /// The line in its middle, on which words can stand: of three lines the one down, of five the one across. A straight way down, which has
+    /// neither a number nor a cross, has none; the corner of the picture stands for it.
     fn label_line(&self) -> LabelLine {
         let count = self.places.len();
         if count < 3 {
@@ -308,8 +314,9 @@ impl Route {
         self.label_line().middle()
     }
 
-    /// The place of this number. Lines beside each other have their middles at one height, where the numbers would cover each other, so odd
-    /// ones stand further up or further to the left.
+    /// The place of this number, near the middle of the line on which words can stand. Lines beside each other have their middles at one
+    /// height, where the numbers would cover each other, so odd ones stand further up or further to the left. Only the x of a line across and
+    /// the y of a line down are shifted, as the ends of a line have the other one in common.
     pub fn number_place(&self, number: u64) -> RoutePoint {
         let line = self.label_line();
         let middle = line.middle();

@@ -13,7 +13,7 @@ pub(crate) struct ShownNames<'p> {
 }
 
 impl ShownNames<'_> {
-    /// The place under which the operation of a box is named.
+    /// The place under which the operation of a box is named, counted from 1; 0 for the box of a value.
     pub fn place_of_item(&self, item: &PictureItem<'_>) -> u64 {
         if item.number.place == 0 {
             return 0;

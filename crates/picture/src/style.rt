@@ -68,10 +68,10 @@ marker path.orange { fill: #f0953a }
 </style>
 ";
 
-/// The colours of the heads of arrows.
+/// The colours of the heads of arrows. Each has in `STYLE` a rule for lines and one for heads, by day and by night.
 const HEADS: [&[u8]; 5] = [b"grey", b"blue", b"violet", b"brown", b"orange"];
 
-/// Draws the heads of arrows, for later use.
+/// Defines the heads of arrows, which paths name as `marker-end`. A head has its size in pixels, however broad the line is.
 fn define_heads(svg: &mut SvgText) {
     svg.add(&[b"<defs>\n"]);
     for name in HEADS {

@@ -2,7 +2,7 @@
 
 use trace_semantics::trace::Trace;
 
-/// The most operations that a picture is of.
+/// The most operations that a picture is of. Those that `drawn_order` puts beside them do not count.
 pub(crate) const MAX_DRAWN: u64 = 100;
 
 /// What the operations of a picture are.

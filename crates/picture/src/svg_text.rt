@@ -51,7 +51,7 @@ impl SvgText {
         self.attribute(b"y", y);
     }
 
-    /// Adds what stands for the byte in XML.
+    /// Adds what stands for the byte in XML, between tags: quotation marks stay, so it is not for attributes.
     fn add_escaped_byte(&mut self, byte: u8) {
         match byte {
             b'&' => self.add(&[b"&amp;"]),

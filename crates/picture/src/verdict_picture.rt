@@ -103,7 +103,7 @@ fn draw_whole(
     draw_choice(alloc, part, places, PictureSubject::Whole, &mut choice)
 }
 
-/// Draws what the survey finds, or says why it is not drawn.
+/// Draws what the survey finds, or says why it is not drawn. The survey is not trusted: a finding that does not fit the verdict counts as none.
 fn draw_finding(
     alloc: Global,
     part: PartTrace<'_>,
@@ -137,6 +137,7 @@ pub fn draw_verdict<S: Surveyor>(
     is_consistent: bool,
 ) -> Result<Vec<u8>, AllocError> {
     let count = count_all(trace);
+    // All operations of a schedule are drawn, so no survey is needed to see that they are too many. A core may be small all the same.
     if is_consistent && count > MAX_DRAWN {
         return draw_message(alloc, NothingDrawn::LongSchedule(count));
     }

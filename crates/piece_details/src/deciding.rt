@@ -65,6 +65,7 @@ pub(crate) fn decide_trace<R: Threads + Wait + Sync, S: Surveyor>(
 ) -> Result<Option<Surveyed>, AllocError>
     ensures { IfOk result (λ found. IfSome found (IsShown trace.now)) }
 {
+    // A refusal with a place says that more are kept than a search takes, and nothing else.
     match reduce(alloc, trace) {
         Ok(reduced) => decide_by_search(alloc, rt, &reduced, short),
         Err(PlacedFault::OutOfMemory) => Err(AllocError),

@@ -13,7 +13,7 @@ use verdict_report::Status;
 /// The steps that the survey for a picture may take: a fraction of a second.
 const DRAWING_STEPS: u64 = 20_000_000;
 
-/// Gives the command that decides this of the trace that the text spells.
+/// Gives the command that decides this of the trace that the text spells: `verify` if a search did, whose options these are, and else `survey`.
 fn asked_of<'t>(
     text: &'t [u8],
     surveyed: &Surveyed,
@@ -44,7 +44,7 @@ fn asked_of<'t>(
     }
 }
 
-/// The notes on a trace that has no legal schedule, as lines for standard error.
+/// The notes on a trace that has no legal schedule, as lines for standard error. The caller knows that it has none.
 pub(crate) fn notes_of(
     alloc: Global,
     text: &[u8],

@@ -39,6 +39,7 @@ fn push_string(alloc: Global, item: &mut Vec<u8>, bytes: &[u8]) -> Result<(), Al
 fn push_literals(item: &mut Vec<u8>, line: &[u8]) -> Result<(), AllocError> {
     item.extend_from_slice(b"[")?;
     let mut rest = line.strip_prefix(OPEN).unwrap_or(b"");
+    // Each round takes a word, and a line has fewer words than bytes. The first literal has no comma in front.
     for place in 0..line.len() {
         match cut_word(rest) {
             Some((literal, after)) => {
@@ -57,7 +58,7 @@ fn push_literals(item: &mut Vec<u8>, line: &[u8]) -> Result<(), AllocError> {
     item.extend_from_slice(b"]")
 }
 
-/// The line as an item of this form, or no bytes if it is none.
+/// The line as an item of this form, or no bytes if it is none. Each item has a byte at least, so that no bytes can stand for none.
 fn item_of(alloc: Global, line: &[u8], form: ItemForm) -> Result<Vec<u8>, AllocError> {
     let mut item = Vec::new(alloc);
     match form {
@@ -87,6 +88,7 @@ fn push_item(items: &mut Vec<u8>, item: &[u8]) -> Result<(), AllocError> {
 fn items_of(alloc: Global, lines: &[u8], form: ItemForm) -> Result<Vec<u8>, AllocError> {
     let mut items = Vec::new(alloc);
     let mut rest = lines;
+    // Each round takes a line, of which there are no more than bytes.
     for _ in 0..lines.len() {
         match cut_line(rest) {
             Some((line, after)) => {

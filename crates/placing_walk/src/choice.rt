@@ -9,7 +9,8 @@ use total_tables::at;
 /// Operations of another process up to which one on the same location is looked for.
 const SIGHT: u32 = 12;
 
-/// The cost if the order to some other operation has to be decided, since each decision may have to be turned round.
+/// Costs and gains are on one scale, and only their differences count: the writer with the highest sum comes next. This is the cost if the order to some
+/// other operation has to be decided, since each decision may have to be turned round.
 const OPEN: i64 = 100_500;
 
 /// The cost of each reader of the value that is there, since it would come too late.
@@ -24,7 +25,7 @@ const NEEDED: i64 = 1_000_000_000;
 /// The cost if one write can be spared. It is a part of that if more can.
 const SCARCE: u64 = 1_000_000;
 
-/// The cost of a place that is this number of operations behind, or all of them if there are fewer.
+/// The cost of an estimated place that lies `PROGRESS_LENGTH` operations behind another, or as many as the log has, if these are fewer.
 const PROGRESS: u64 = 2000;
 
 const PROGRESS_LENGTH: u32 = 4096;

@@ -29,6 +29,7 @@ impl PlacingWalk {
         if best == ProcessId::NONE {
             return Ok(false);
         }
+        // The table has the set of the last process that was tried, so that of the best is made once more.
         self.close(alloc, order, best)?;
         self.learning.analysis.begin();
         for process in ProcessId::first(processes) {
@@ -116,6 +117,8 @@ impl PlacingWalk {
             if low < order.sources().high(number, run) {
                 let other = order.sources().process(order.classes(), number, run);
                 let writer = order.log().operation(order.classes().writer(low));
+                // The first source is placed, or is of the reader's own process, or its process is at its end: then what the others do does not keep the
+                // reader waiting.
                 if other == process
                     || self.head(order, other) == NOBODY
                     || self.memory.front(other) > writer.place
@@ -128,6 +131,7 @@ impl PlacingWalk {
         Ok(true)
     }
 
+    /// Has the process join the set, and wait in `due` for its own turn, unless it is in the set.
     fn join(&mut self, process: ProcessId, due: &mut Vec<ProcessId>) -> Result<(), AllocError> {
         if !at(self.is_in_set.as_slice(), process.number(), true) {
             put(self.is_in_set.as_mut_slice(), process.number(), true);

@@ -1,4 +1,6 @@
 //! Decisions, and what is learned from their conflicts.
+//!
+//! In functions of a step `None` means that the walk goes on, and an ending that it is over.
 
 use crate::placing_walk::{Deciding, PlacingWalk, WalkEnding};
 use crate::waiting::Awaited;
@@ -78,6 +80,7 @@ impl PlacingWalk {
         Ok(None)
     }
 
+    /// Decides the order. A decision that ends in a conflict counts too, so it is noted first: `decided_at` has an entry for each decision of the order.
     fn push_decision(
         &mut self,
         order: &mut Propagation<'_>,
@@ -88,6 +91,7 @@ impl PlacingWalk {
         order.decide(first, second)
     }
 
+    /// Notes how many operations are placed at the decision.
     fn note_decision(&mut self) -> Result<(), AllocError> {
         let placed = self.memory.count();
         self.decided_at.push(placed)?;
@@ -123,6 +127,7 @@ impl PlacingWalk {
             };
             let literals = self.learning.analysis.literals();
             let clause = self.learning.clauses.add(literals)?;
+            // The first decision that is undone, so its entry must be read before the jump drops it.
             target = target.min(at(self.decided_at.as_slice(), level, 0));
             self.jump_back(order, level);
             let added = order.add(literal.first, literal.second, PairReason::Learned(clause));
@@ -148,15 +153,17 @@ impl PlacingWalk {
         Ok(Some(WalkEnding::GivenUp))
     }
 
-    /// Backtracks to this number of decisions.
+    /// Backtracks to this number of decisions. A conflict is counted here for each clause.
     fn jump_back(&mut self, order: &mut Propagation<'_>, level: u32) {
         self.conflicts = self.conflicts.wrapping_add(1);
+        // The rows, sources and pairs of the order; operations are taken back by `heed`, when the new pair is there.
         order.take_back(level);
         for _ in level..size(self.decided_at.as_slice()) {
             if self.decided_at.pop().is_none() {
                 break;
             }
         }
+        // Pairs that come now have the numbers of those that were taken back, and were not heeded yet.
         self.heeded = self.heeded.min(order.pairs().count());
     }
 
@@ -174,7 +181,7 @@ impl PlacingWalk {
     }
 
     /// Takes back what is not placed in the order of all pairs, with all behind it; if the walk decides always, also what was placed after the
-    /// decisions that were undone.
+    /// decisions that were undone. `target` is the number of operations that were placed before these, or `NO_NUMBER` if none was undone.
     pub(crate) fn heed(&mut self, order: &mut Propagation<'_>, target: u32) {
         let log = order.log();
         let mut left = self.memory.count();
@@ -206,7 +213,8 @@ impl PlacingWalk {
         }
     }
 
-    /// Looks at the readers that come next once more, and at what waits. Returns how the walk goes on, if that says anything new.
+    /// Looks at the readers that come next once more, and at what waits. Returns how the walk goes on, if that says anything new. If so, the inner part is
+    /// as in other steps.
     fn look_at_fronts(
         &mut self,
         order: &mut Propagation<'_>,
@@ -253,6 +261,7 @@ impl PlacingWalk {
         if self.restarts > MOST_RESTARTS {
             return Ok(Some(WalkEnding::GivenUp));
         }
+        // Operations alone are taken back: decisions, and what follows from them, stay.
         self.take_back(order, 0);
         self.change_all(order.log().processes());
         Ok(None)

@@ -1,4 +1,6 @@
 //! What is placed, and what memory holds by it.
+//!
+//! Past the end of a table `at` reads as its last argument, and `put` does nothing; so arithmetic may wrap, and a wrong place makes no fault.
 
 use crate::spare_values::SpareValues;
 use numbered_log::{
@@ -20,7 +22,7 @@ pub(crate) struct PlacedMemory {
     held: Vec<OperationId>,
     /// For each placed operation that writes the one that its location held before, so that it is taken back without a search.
     held_before: Vec<OperationId>,
-    /// For each reading operation its source, if it has one only.
+    /// For each reading operation its source, if it has one only. It is `NOBODY` for the initial value, and `UNKNOWN_SOURCE` if there are several.
     sources: Vec<OperationId>,
     /// For each operation the readers that are not placed and have it as their only source.
     unread: Vec<u32>,
@@ -113,7 +115,7 @@ impl PlacedMemory {
         }
     }
 
-    /// Notes the sources anew of the readers that had several.
+    /// Notes the sources anew of the readers that had several. Placed readers are counted again when they are taken back.
     pub(crate) fn note_sources(&mut self, order: &Propagation<'_>) {
         let log = order.log();
         for entry in 0..size(self.open.as_slice()) {
@@ -149,6 +151,7 @@ impl PlacedMemory {
         at(self.positions.as_slice(), number.number(), NO_NUMBER)
     }
 
+    /// Returns whether the operation is placed.
     #[inline(always)]
     pub(crate) fn is_placed(&self, number: OperationId) -> bool {
         self.position(number) != NO_NUMBER
@@ -203,6 +206,7 @@ impl PlacedMemory {
             operation.process.number(),
             front,
         );
+        // An update reads before it writes: `unread` speaks of what is held until then.
         let mut is_free = false;
         if operation.reads {
             let source = self.source(number);

@@ -1,4 +1,6 @@
 //! The walk.
+//!
+//! Past the end of a table `at` reads as its last argument, and `put` does nothing; so arithmetic may wrap, and a wrong place makes no fault.
 
 use crate::memory::PlacedMemory;
 use crate::waiting::Awaited;
@@ -8,6 +10,7 @@ use order_propagation::Propagation;
 use std::alloc::{AllocError, Global};
 use total_tables::{at, put};
 
+/// The end of a walk.
 #[derive(Clone, Copy, PartialEq, Eq)]
 pub enum WalkEnding {
     /// All operations are placed, and the final values are as they have to be.
@@ -35,11 +38,11 @@ pub struct PlacingWalk {
     pub(crate) awaited: Vec<Awaited>,
     /// For each process whether that has to be seen anew: an operation that is placed concerns few of them.
     is_changed: Vec<bool>,
-    /// For each operation its estimated place.
+    /// For each operation its estimated place. It is a number of operations from the front of the whole schedule.
     pub(crate) estimates: Vec<u32>,
     pub(crate) deciding: Deciding,
     pub(crate) learning: Learning,
-    /// For each decision the number of operations that were placed.
+    /// For each decision the number of operations that were placed. The entry of number 0 is that of the first decision.
     pub(crate) decided_at: Vec<u32>,
     /// The number of pairs whose order the placed operations are known to have, so that only newer ones are looked at.
     pub(crate) heeded: u32,
@@ -47,8 +50,10 @@ pub struct PlacingWalk {
     pub(crate) is_in_set: Vec<bool>,
     /// How often no operation could come next.
     pub(crate) stuck: u32,
+    /// How often the walk has begun at the front again.
     pub(crate) restarts: u32,
     pub(crate) conflicts: u32,
+    /// `conflicts` counts each clause that is learned, and once more each that is a conflict as soon as it is added.
     pub(crate) most_conflicts: u32,
     most_placed: u32,
 }
@@ -105,6 +110,7 @@ impl PlacingWalk {
         })
     }
 
+    /// The operations that are placed, in their order: a schedule, if the walk has ended with one.
     pub fn placed(&self) -> &[OperationId] {
         self.memory.placed.as_slice()
     }
@@ -114,11 +120,13 @@ impl PlacingWalk {
         self.most_placed
     }
 
+    /// The number of conflicts so far, as it is compared with the most.
     pub fn conflicts(&self) -> u32 {
         self.conflicts
     }
 
-    /// The operations that the conflict rests on by which the walk was refuted, by rising numbers; none if they are not known.
+    /// The operations that the conflict rests on by which the walk was refuted, by rising numbers; none if they are not known. It goes on from what the
+    /// analysis was asked when the walk ended, so nothing may be taken back before.
     pub fn find_core(
         &mut self,
         alloc: Global,
@@ -231,6 +239,7 @@ impl PlacingWalk {
         }
         if operation.writes {
             let unread = self.memory.unread(operation.location);
+            // An update that reads what is held is among the readers that have not come: it need not wait for itself.
             let is_counted = operation.reads && self.memory.source(number) != UNKNOWN_SOURCE;
             if unread > is_counted as u32 {
                 return Awaited::Readers(operation.location);
@@ -269,6 +278,7 @@ impl PlacingWalk {
                 }
                 Awaited::Value(location) => is_free && location == operation.location,
                 Awaited::Readers(location) => is_free && location == operation.location,
+                // It could come before, and may have to wait now.
                 Awaited::Nothing => is_free && self.is_near(log, process, operation),
             };
             if is_changed || process == operation.process {
@@ -286,12 +296,13 @@ impl PlacingWalk {
     }
 
     /// Two operations of which the first must be decided to come before the second since the location of the first has a wrong final value:
-    /// what it holds, and a possible last writer.
+    /// what it holds, and a possible last writer. Either is `NOBODY` if an initial value stands there; the walk then gives up, as no order can be decided.
     fn wrong_final_value(&self, order: &Propagation<'_>) -> Option<(OperationId, OperationId)> {
         let log = order.log();
         for location in log.location_ids() {
             let held = self.memory.held(location);
             if let Some(value) = log.last(location) {
+                // No operation has written the location if `NOBODY` is held.
                 let mut left = log.initial(location);
                 if held != NOBODY {
                     left = Some(log.operation(held).left);

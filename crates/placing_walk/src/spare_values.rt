@@ -1,4 +1,6 @@
 //! How many plain writes may still write over each value.
+//!
+//! Past the end of a table `at` reads as its last argument, and `put` does nothing; so arithmetic may wrap, and a wrong place makes no fault.
 
 use numbered_log::{LocationId, NOBODY, NumberedLog, OperationId};
 use order_propagation::Propagation;
@@ -47,7 +49,8 @@ pub fn has_many_updates(log: &NumberedLog) -> bool {
 }
 
 impl SpareValues {
-    /// The numbers before anything is placed. If updates are few, nothing is scarce.
+    /// The numbers before anything is placed. If updates are few, nothing is scarce. Classes of operations then stay none, of which no number is kept: it
+    /// reads as `PLENTY`.
     pub(crate) fn new(alloc: Global, order: &Propagation<'_>) -> Result<SpareValues, AllocError> {
         let log = order.log();
         let mut spare = SpareValues {
@@ -67,6 +70,7 @@ impl SpareValues {
         Ok(spare)
     }
 
+    /// Counts a writer for its class, and an update against the class that it reads.
     fn count_operation(&mut self, order: &Propagation<'_>, number: OperationId) {
         let operation = order.log().operation(number);
         if operation.writes {

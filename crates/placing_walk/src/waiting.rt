@@ -9,7 +9,7 @@ pub(crate) enum Awaited {
     Nothing,
     /// The process is at its end.
     Never,
-    /// The process of this number, up to this place.
+    /// The process of this number, up to this place. That operation has to be placed too.
     Process(ProcessId, ProcessPlace),
     /// Another value of the location.
     Value(LocationId),

@@ -1,4 +1,6 @@
 //! Processes that wait for one another.
+//!
+//! Past the end of a table `at` reads as its last argument, and `put` does nothing; so arithmetic may wrap, and a wrong place makes no fault.
 
 use crate::placing_walk::PlacingWalk;
 use crate::waiting::Awaited;
@@ -55,7 +57,8 @@ impl PlacingWalk {
         })
     }
 
-    /// Finds the ring at the end of the chain that begins with the first process that waits.
+    /// Finds the ring at the end of the chain that begins with the first process that waits. A chain of as many links as there are processes comes to one
+    /// again, and the ring is what lies behind that.
     fn find_ring(
         &self,
         alloc: Global,
@@ -92,6 +95,7 @@ impl PlacingWalk {
         Ok(WaitingRing { links })
     }
 
+    /// Finds the first process that is not at its end: none can go on when this is asked.
     fn first_waiting(&self, processes: u32) -> ProcessId {
         for process in ProcessId::first(processes) {
             if at(self.awaited.as_slice(), process.number(), Awaited::Never) != Awaited::Never {

@@ -9,9 +9,11 @@ use total_tables::{at, put, sum_up};
 /// follows from its source.
 #[derive(Drop)]
 pub struct HidingAccesses {
+    /// The number of locations.
     locations: u32,
-    /// For each process and location where its accesses begin, and where all end.
+    /// For each process and location, at the place `pair_of`, where its accesses begin, and where all end.
     begins: Vec<u32>,
+    /// The places, of each process and location one after the other. An index of these tables is an entry.
     places: Vec<ProcessPlace>,
     /// For each entry that is a plain read the place of the nearest access before it that is no read of its value, or `START`; of a writer its
     /// own place. So reads of one value in a row are passed in one look.
@@ -56,6 +58,7 @@ impl HidingAccesses {
         Ok(accesses)
     }
 
+    /// The number of the process and the location among all pairs of these.
     #[inline(always)]
     fn pair_of(&self, process: ProcessId, location: LocationId) -> u32 {
         process
@@ -64,6 +67,8 @@ impl HidingAccesses {
             .wrapping_add(location.number())
     }
 
+    /// Counts the access two places further on: summed up, the entry one place on is where its accesses begin, and `enter` moves that on to their
+    /// end, which is where the next ones begin.
     fn count_one(&mut self, log: &NumberedLog, number: OperationId) {
         let operation = log.operation(number);
         let place = self
@@ -73,6 +78,7 @@ impl HidingAccesses {
         put(self.begins.as_mut_slice(), place, more);
     }
 
+    /// Enters the access behind the last one of its process and location. Operations come by rising numbers, so places rise.
     fn enter(&mut self, log: &NumberedLog, number: OperationId) {
         let operation = log.operation(number);
         let place = self

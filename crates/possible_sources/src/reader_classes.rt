@@ -73,7 +73,8 @@ impl ReaderClasses {
         at(self.readers.as_slice(), position, NOBODY)
     }
 
-    /// The first position, from one up to another, whose reader has this number or a larger one.
+    /// The first position, from one up to another, whose reader has this number or a larger one, or the end. Positions have 32 bits, so 32 halvings
+    /// are enough.
     #[inline(always)]
     pub fn first_from(&self, begin: u32, end: u32, number: OperationId) -> u32 {
         let mut low = begin;

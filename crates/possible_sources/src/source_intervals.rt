@@ -1,4 +1,7 @@
 //! The possible sources of each reader, as intervals.
+//!
+//! Writers are sorted by their class, which is a location and a value, then by process and place. A position is a place in this table, from 0; a run is
+//! what one process has of a class. A reader has an interval of positions for each run of its class, numbered from 0, whose upper end is excluded.
 
 use crate::time::Time;
 use crate::value_classes::{ClassId, ValueClasses};
@@ -28,6 +31,7 @@ pub struct LossCause {
     pub writer: OperationId,
     /// The access that hides it, or the reader if it stands after that.
     pub witness: OperationId,
+    /// The time of the loss. What it rests on has earlier ones.
     pub time: Time,
 }
 
@@ -35,11 +39,11 @@ pub struct LossCause {
 #[derive(Clone, Copy)]
 pub struct SourceLoss {
     pub reader: OperationId,
-    /// The number of the interval among all.
+    /// The number of the interval among all, or `NO_NUMBER` if the initial value was lost.
     pub interval: u32,
     pub bound: LostBound,
     pub cause: LossCause,
-    /// The bound before.
+    /// The bound before, a position among the writers of `ValueClasses`; it has no meaning for the initial value.
     pub old_bound: u32,
     /// The number of sources before, so that it is not counted again when the loss is taken back.
     old_count: u32,
@@ -66,22 +70,26 @@ const NO_LOSS: SourceLoss = SourceLoss {
 /// that writes its value an interval of the positions of a run of writers, since rows rise along a process; and maybe the initial value. So
 /// tables have an entry for each reader and process, and not for each source.
 pub struct SourceIntervals {
+    /// The number of operations, and so the first reader that is a final value.
     operations: u32,
     /// For each reader where its intervals begin, and where all end.
     begins: Vec<u32>,
     /// For each reader its class, if it has one.
     classes: Vec<ClassId>,
+    /// For each interval its first position among the writers of `ValueClasses`, and the one behind its last. An interval is empty if they are equal.
     lows: Vec<u32>,
     highs: Vec<u32>,
-    /// For each interval its last loss at either end.
+    /// For each interval the number of its last loss at the lower end, or `NO_NUMBER`.
     hidden: Vec<u32>,
+    /// The same at the upper end.
     late: Vec<u32>,
-    /// For each reader whether the initial value is possible.
+    /// For each reader whether the initial value is possible by program order and origins. A later loss leaves that as it is.
     is_initial: Vec<bool>,
-    /// For each reader the loss of the initial value, or `NO_NUMBER`.
+    /// For each reader the number of the loss of the initial value, or `NO_NUMBER`.
     initial_losses: Vec<u32>,
     /// For each reader the number of its possible sources, or `NO_NUMBER` of what reads nothing.
     counts: Vec<u32>,
+    /// All losses, by their times. A loss is named by its place here.
     losses: Vec<SourceLoss>,
 }
 
@@ -107,6 +115,7 @@ impl Drop for SourceIntervals {
 /// For each location the last writer that was met, with its process.
 #[derive(Drop)]
 struct LatestWrites {
+    /// By location, `NOBODY` before the first. The process of a writer is asked, so nothing is cleared when a process begins.
     writers: Vec<OperationId>,
 }
 
@@ -125,6 +134,7 @@ impl SourceIntervals {
         for number in log.operation_ids() {
             sources.narrow_by_program(log, classes, number, &last);
             let operation = log.operation(number);
+            // A read-modify-write comes in after it was narrowed, so it does not read from itself.
             if operation.writes {
                 put(
                     last.writers.as_mut_slice(),
@@ -264,7 +274,7 @@ impl SourceIntervals {
         }
     }
 
-    /// Leaves this writer alone in the interval, or none if it is not there.
+    /// Leaves this writer alone in the interval, or none if it is not there, as `NOBODY` is in none. That is no loss: nothing gives the others back.
     fn keep_only(
         &mut self,
         classes: &ValueClasses,
@@ -319,6 +329,7 @@ impl SourceIntervals {
                 let writer = at(last.as_slice(), location.number(), NOBODY);
                 if writer != NOBODY {
                     put(self.is_initial.as_mut_slice(), reader.number(), false);
+                    // It is empty again for the next process.
                     put(last.as_mut_slice(), location.number(), NOBODY);
                 }
                 for run in 0..self.intervals(reader) {
@@ -348,6 +359,7 @@ impl SourceIntervals {
         at(self.classes.as_slice(), reader.number(), ClassId::NONE)
     }
 
+    /// The number of the reader's intervals, empty ones among them.
     #[inline(always)]
     pub fn intervals(&self, reader: OperationId) -> u32 {
         at(self.begins.as_slice(), reader.next().number(), 0).saturating_sub(at(
@@ -357,7 +369,7 @@ impl SourceIntervals {
         ))
     }
 
-    /// The number among all of the reader's interval of this number.
+    /// The number among all of the reader's interval of this number, counted from 0.
     #[inline(always)]
     pub fn interval(&self, reader: OperationId, run: u32) -> u32 {
         at(self.begins.as_slice(), reader.number(), 0).wrapping_add(run)
@@ -441,7 +453,7 @@ impl SourceIntervals {
         self.low(reader, run) <= position && position < self.high(reader, run)
     }
 
-    /// Sets the number of possible sources of the reader.
+    /// Sets the number of possible sources of the reader. The losses that make it less are noted before, since each keeps the number before it.
     pub fn set_count(&mut self, reader: OperationId, count: u32) {
         put(self.counts.as_mut_slice(), reader.number(), count);
     }
@@ -536,6 +548,7 @@ impl SourceIntervals {
         }
     }
 
+    /// Undoes the loss, which must be the last that is left: the bound and the count become what they were before it.
     fn undo(&mut self, loss: SourceLoss) {
         match loss.bound {
             LostBound::Hidden => {

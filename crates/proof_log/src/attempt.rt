@@ -123,7 +123,7 @@ impl<S: SharingLearner + Drop> Attempt<S> {
 
 /// Runs an attempt by turns, until it has an answer or has analysed `budget` conflicts and met one more. There are turns though nothing is
 /// run beside it, since sources are counted again after each: if one is excluded by a case distinction alone, the search does not end by
-/// itself.
+/// itself. With a budget of 0 it takes one turn, which finds a model that needs no conflict.
 pub fn search_alone<S: Learner + Drop>(
     attempt: &mut Attempt<S>,
     budget: u64,
@@ -143,7 +143,8 @@ pub fn search_alone<S: Learner + Drop>(
     }
 }
 
-/// Runs two attempts by turns, until one of them has an answer or both together have analysed `budget` conflicts and met one more.
+/// Runs two attempts by turns, until one of them has an answer or both together have analysed `budget` conflicts and met one more. With a budget of 0
+/// neither gets a turn, unlike in `search_alone`.
 pub fn take_turns<S: Learner + Drop>(
     first: &mut Attempt<S>,
     second: &mut Attempt<S>,

@@ -8,6 +8,7 @@ use dimacs::Lit;
 /// A literal that is never true. It fills up clauses of fewer literals.
 pub const NEVER: u32 = 0;
 
+/// Returns the code of the literal.
 #[inline(always)]
 pub fn code_of(literal: Lit) -> u32 {
     let code = literal.variable().wrapping_mul(2);
@@ -18,6 +19,7 @@ pub fn code_of(literal: Lit) -> u32 {
     }
 }
 
+/// Returns the literal of the code. The codes 0 and 1 are of no variable and would give literals of the variable 1, so callers leave them out before.
 pub fn literal_of(code: u32) -> Lit {
     let number = i32::try_from(code >> 1).unwrap_or(0);
     let literal = Lit::new(number).unwrap_or_default();

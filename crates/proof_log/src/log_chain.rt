@@ -62,7 +62,8 @@ impl LogChain {
         width
     }
 
-    /// Returns 1 for each addition on which the clause of this number rests, by its number from the first one on.
+    /// Returns 1 for each addition on which the clause of this number rests, by its number from the first one on. The logs are asked from the last one
+    /// back, since an addition rests on those of its own log and of earlier ones.
     fn needed(&self, alloc: Global, clause: u32) -> Result<Vec<u8>, AllocError> {
         let mut needed = vec![in alloc; 0; self.width() as usize]?;
         mark(&[clause], self.first, needed.as_mut_slice());

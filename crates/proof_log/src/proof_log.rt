@@ -10,14 +10,15 @@ use std::alloc::{AllocError, Global};
 use std::marker::Model;
 use total_tables::{at, piece, put, size};
 
-/// The ends of an addition in the lists of literals and of hints.
+/// The ends of an addition in the lists of literals and of hints: the places after its last ones, where the next addition begins.
 #[derive(Clone, Copy)]
 struct End {
     literals: u32,
     hints: u32,
 }
 
-/// Marks those of these clauses that have this number or a larger one.
+/// Marks those of these clauses that have this number or a larger one, by their numbers from that one on. The others have no mark: they are of the
+/// formula or of an earlier log.
 pub(crate) fn mark(clauses: &[u32], from: u32, marks: &mut [u8]) {
     for clause in clauses {
         if *clause >= from {
@@ -113,22 +114,22 @@ impl ProofLog {
         }
     }
 
-    /// Returns the hints of the addition of this number.
+    /// Returns the hints of the addition of this number, counted from 0.
     fn hints_of(&self, addition: u32) -> &[u32] {
         let from = self.end_before(addition).hints;
         let to = self.end_before(addition.wrapping_add(1)).hints;
         piece(self.hints.as_slice(), from, to)
     }
 
-    /// Returns the literals of the addition of this number.
+    /// Returns the literals of the addition of this number, counted from 0.
     fn literals_of(&self, addition: u32) -> &[u32] {
         let from = self.end_before(addition).literals;
         let to = self.end_before(addition.wrapping_add(1)).literals;
         piece(self.literals.as_slice(), from, to)
     }
 
-    /// Marks what each marked addition rests on, from the last one back: the backward pass that trims a proof to its core. The marks are of clauses
-    /// from this number on.
+    /// Marks what each marked addition rests on, from the last one back: the backward pass that trims a proof to its core. Hints have smaller numbers
+    /// than their addition, so one pass is enough. The marks are of clauses from this number on, which is that of the first addition or a smaller one.
     pub(crate) fn mark_needed(&self, from: u32, marks: &mut [u8]) {
         let base = self.first.wrapping_sub(from);
         for addition in (0..size(self.ends.as_slice())).rev() {
@@ -179,7 +180,8 @@ impl ProofLog {
         Ok(steps)
     }
 
-    /// Adds those additions as steps that are marked, or have no mark at all. The marks are of clauses from this number on.
+    /// Adds those additions as steps that are marked, or have no mark at all: with an empty list of marks that is all of them. The marks are of clauses
+    /// from this number on.
     pub(crate) fn push_marked(
         &self,
         alloc: Global,

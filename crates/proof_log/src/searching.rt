@@ -14,7 +14,7 @@ pub enum SearchEnd {
     Satisfied,
     /// The empty clause was learned.
     Refuted,
-    /// There was one conflict more than the budget has.
+    /// There was one conflict more than the budget has. It is not analysed, and no clause is learned from it.
     Open,
 }
 

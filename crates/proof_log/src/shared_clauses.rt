@@ -3,7 +3,7 @@
 use std::alloc::{AllocError, Global};
 use total_tables::{at, piece, size};
 
-/// Number and LBD of a clause, and where its literals end.
+/// Number and LBD of a clause, and where its literals end: they begin where those of the clause before it end.
 #[derive(Clone, Copy)]
 struct Head {
     id: u32,

@@ -43,7 +43,7 @@ impl BeforePlaces {
         Ok(BeforePlaces { places })
     }
 
-    /// The place of the pair; one past all places if the trace does not have it.
+    /// The place of the pair, counted from 0 in the trace's list; one past all places if the trace does not have it.
     pub fn place(&self, pair: OrderPair) -> usize {
         match self.places.get(&pair) {
             Some(place) => *place,

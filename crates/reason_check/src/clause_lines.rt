@@ -19,7 +19,7 @@ use std::alloc::Global;
 use text_lines::lines::cut_line;
 use trace_semantics::trace::Trace;
 
-/// The text of a derivation, and how many lines stand before it.
+/// The text of a derivation, and how many lines stand before it: the header and the line `p` among them.
 #[derive(Drop)]
 pub struct DerivationText<'a> {
     pub text: &'a [u8],
@@ -61,6 +61,7 @@ pub fn read_clauses<'a>(
         Err(refusal) => return Err(ReasonsFault::of_line(refusal, 1)),
     };
     let tables = tables_of(alloc, trace)?;
+    // The header is line 1, so this is also the number of the line that was taken last.
     let mut before = 1usize;
     while let Some((line, after)) = cut_line(rest) {
         let taken = read_and_take(alloc, trace, &tables, line, list);

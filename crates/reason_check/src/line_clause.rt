@@ -67,7 +67,8 @@ fn refuse_outcome(outcome: ClauseOutcome) -> Result<(), ReasonRefusal>
     }
 }
 
-/// Appends the clause that one of the orders stands. If there are none, no schedule is legal.
+/// Appends the clause that one of the orders stands. If there are none, no schedule is legal. Each order gives the clause a literal, so it is empty
+/// only then.
 fn add_orders(
     alloc: Global,
     orders: &[OrderPair],

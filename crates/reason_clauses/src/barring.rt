@@ -53,13 +53,14 @@ pub fn bar_apart(
 pub enum MainPiece {
     /// They stand before the reader.
     Plain,
-    /// A witness stands before the last of them, or after the reader.
+    /// A witness stands before the last of them, or after the reader. It also bars the initial value.
     Witness(OperationPlace),
     /// An operation stands after the first of them, or before the reader.
     Between(OperationPlace),
 }
 
-/// Bars what is up to this place by the witness, unless that is this place.
+/// Bars what is up to this place by the witness, unless that is this place. The place is the last of the sources that are barred: if the witness stands
+/// before any of them, it stands before this one.
 fn bar_up_to(
     orders: &mut Vec<OrderPair>,
     reader: OperationPlace,
@@ -103,7 +104,7 @@ fn bar_front(
     Ok(())
 }
 
-/// Bars what is from this place on.
+/// Bars what is from this place on, or nothing if it is 0. The place is the first of the sources that are barred, so if it comes after the reader, all do.
 fn bar_from(
     orders: &mut Vec<OrderPair>,
     reader: OperationPlace,
@@ -121,7 +122,7 @@ fn bar_from(
     Ok(())
 }
 
-/// Bars the main stretch.
+/// Bars the main stretch, by its first or its last place. It is empty if the first is 0, and then the last is 0 too.
 fn bar_main(
     orders: &mut Vec<OrderPair>,
     reader: OperationPlace,

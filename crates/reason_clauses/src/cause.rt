@@ -53,6 +53,7 @@ impl FaultCause for ReasonCause {
 
     ghost name_of = { cause_name };
 
+    // The numbers are those of docs/REASONS.md. 1 is that memory ran out, and no cause has 6.
     fn number(&self) -> u8 {
         match self {
             ReasonCause::NoOperation => 2,

@@ -18,7 +18,7 @@ use order_clauses::order_pair::OrderPair;
 use trace_semantics::trace::Trace;
 use writer_table::operation_place::OperationPlace;
 
-/// Appends that the step from one operation to another is turned round.
+/// Appends that the step from one operation to another is turned round. Only the first is looked up: in a cycle each operation is the first of one step.
 fn push_turned(
     trace: &Trace,
     from: OperationPlace,
@@ -72,6 +72,7 @@ pub fn cycle_clause(
     ensures refused { IfErr result (IsRefusedBy (IsCycleRefused trace.now operations.now)) }
 {
     let count = operations.len();
+    // A single operation is its own next one, and `push_turned` refuses it.
     if count == 0 {
         return Err(ReasonRefusal::For(ReasonCause::BadCycle));
     }

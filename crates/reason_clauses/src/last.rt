@@ -30,7 +30,8 @@ use trace_semantics::trace::Trace;
 use writer_table::operation_place::OperationPlace;
 use writer_table::runs::Run;
 
-/// Returns whether the operation writes the location, or reads another value there than the final one, if there is one.
+/// Returns whether the operation writes the location, or reads another value there than the final one, if there is one. After the last writer no
+/// operation does either.
 fn hides_late(op: &Op, location: &[u8], final_value: Option<u64>) -> bool
     ensures only { result ≡ true → DoesHideLate location.now final_value op.now }
     ensures found { DoesHideLate location.now final_value op.now → result ≡ true }
@@ -125,7 +126,8 @@ pub fn want_late_pieces(
     Ok(())
 }
 
-/// The witness of the piece that takes the operation, if one does.
+/// The witness of the piece that takes the operation, if one does: that of its process up to the bound, and else that of the main piece. A bound of 0
+/// takes nothing, since places are counted from 1.
 pub fn late_witness(pieces: &SourcePieces, n: OperationPlace) -> Option<OperationPlace>
     ensures given { (t : TraceValue) (location : List ℕ) → AreGivenLate t location pieces.now → IfSome result (IsGivenLate t location) }
     ensures taker { result ≡ late_taker pieces.now n }
@@ -243,6 +245,7 @@ pub fn last_clause(
     trace.recall_invariant();
     let final_value = value_at(trace.final_values(), location);
     want_late_pieces(trace, pieces, location, final_value)?;
+    // A table by location asks for no value, so 0 stands for any.
     let runs = writers.by_location.runs(location, 0);
     let is_written = bar_lasts(trace, location, final_value, runs, pieces, orders)?;
     if is_written {

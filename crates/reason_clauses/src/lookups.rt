@@ -16,7 +16,7 @@ use trace_semantics::operation::{Op, OpName, Origin};
 use trace_semantics::trace::{Process, Trace};
 use writer_table::operation_place::OperationPlace;
 
-/// Returns the operation of these numbers.
+/// Returns the operation of these numbers, if the trace has one: processes are counted from 0, places from 1.
 pub fn find_operation(trace: &Trace, n: OperationPlace) -> Option<&Op>
     ensures there { IfSome result (λ op. IsNumberOf trace.now n op.now) }
     ensures missing { result ≡ None → IsKnown trace.now n → ⊥ }
@@ -54,7 +54,8 @@ pub fn are_same(first: OperationPlace, second: OperationPlace) -> bool
     first.process == second.process && first.place == second.place
 }
 
-/// Returns whether the operation writes the location, or reads another value there.
+/// Returns whether the operation writes the location, or reads another value there. No operation that does can stand between a reader of the value
+/// and its source.
 fn hides(op: &Op, location: &[u8], value: u64) -> bool
     ensures only { result ≡ true → DoesHide location.now value op.now }
     ensures found { DoesHide location.now value op.now → result ≡ true }

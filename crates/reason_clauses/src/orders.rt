@@ -8,7 +8,8 @@ use order_clauses::order_pair::OrderPair;
 use std::alloc::AllocError;
 use writer_table::operation_place::OperationPlace;
 
-/// Appends that the first operation stands before the second, unless program order has it otherwise.
+/// Appends that the first operation stands before the second, unless program order has it otherwise: such an order never stands, so the clause says the
+/// same without it. One that program order has is appended; the clause is then always true, and is refused when it is made.
 pub fn push_order(
     orders: &mut Vec<OrderPair>,
     first: OperationPlace,

@@ -95,6 +95,7 @@ fn own_last(trace: &Trace, locations: &TraceWriters, reader: OperationPlace, loc
 {
     trace.recall_invariant();
     let bound = reader.place.saturating_sub(1);
+    // A table by location asks for no value, so 0 stands for any.
     last_in(locations.runs(location, 0), reader.process, bound)
 }
 
@@ -107,7 +108,7 @@ fn leaves(trace: &Trace, n: OperationPlace, location: &[u8], value: u64) -> bool
 }
 
 /// The place of the source that the reader may have in its own process, or 0: the last writer of the location before it, if it leaves
-/// the value and may be read from.
+/// the value and may be read from. No earlier one is a source, since the last one stands between it and the reader.
 pub fn own_source(
     trace: &Trace,
     locations: &TraceWriters,

@@ -47,7 +47,7 @@ fn find_pair(trace: &Trace, order: OrderPair) -> bool
     false
 }
 
-/// The same. The pair at this place is looked at first.
+/// The same. The pair at this place is looked at first, so that mostly the list is not searched. The place is a hint of the caller and may be wrong.
 fn is_pair(trace: &Trace, place: usize, order: OrderPair) -> bool
     ensures only { result ≡ true → Contains trace.now.before (named_order trace.now order) }
     ensures found { Contains trace.now.before (named_order trace.now order) → IsKnown trace.now order.first → IsKnown trace.now order.second → result ≡ true }

@@ -11,7 +11,8 @@ use crate::barring::MainPiece;
 use std::alloc::{AllocError, Global};
 use writer_table::operation_place::OperationPlace;
 
-/// What pieces take of one process: up to the bound by the witness, and from the limit on. A bound or limit of 0 is none.
+/// What pieces take of one process: up to the bound by the witness, and from the limit on. Places are counted from 1, and a bound
+/// or limit of 0 is none. A place that both take is taken by the witness.
 #[derive(Clone, Copy, Debug, PartialEq, Eq)]
 pub struct ProcessPieces {
     pub process: u32,
@@ -73,11 +74,12 @@ fn put(pieces: &mut Vec<ProcessPieces>, piece: ProcessPieces) -> Result<(), Allo
     Ok(())
 }
 
-/// The pieces of a line: for each process those that take a stretch of it, the witness against the initial value, and the main piece.
+/// The pieces of a line: for each process, by rising numbers, those that take a stretch of it, the witness against the initial value, and the main piece.
 #[derive(Drop)]
 pub struct SourcePieces {
     processes: Vec<ProcessPieces>,
     initial: Option<OperationPlace>,
+    /// How all others are barred: `Plain` if the line has no main piece.
     main: MainPiece,
     ghost sorted: { AreSorted processes.items },
 }

@@ -104,7 +104,7 @@ pub fn want_pieces(
     Ok(())
 }
 
-/// The stretches of the named operation, if the run has it.
+/// The stretches of the named operation, if the run has it: if its process is that of the run, and its place is one of the run's places.
 fn stretches_named(trace: &Trace, name: &OpName, run: &Run, piece: ProcessPieces) -> Stretches
     ensures taken { (k : ℕ) → IsKnown trace.now (at_number run.now.process k) → Contains run.now.places k → named trace.now (at_number run.now.process k) ≡ name.now → IsTaken result k }
     ensures most { (n : ℕ) → All (λ p. p ≤ n) run.now.places → AreUpTo result n }
@@ -198,7 +198,8 @@ fn bar_other(
     Ok(())
 }
 
-/// Bars the sources in a run; in the reader's own process that is the one of this place, or none.
+/// Bars the sources in a run; in the reader's own process that is the one of this place, or none. If that place is not 0, the run
+/// has it, since the runs are of the writers of the value.
 fn bar_run(
     trace: &Trace,
     reader: OperationPlace,
@@ -265,7 +266,8 @@ fn may_be_initial(trace: &Trace, location: &[u8], value: u64, origin: &Origin) -
     is_held_at(trace.initial(), location, value)
 }
 
-/// The witness of the pieces against the initial value.
+/// The witness of the pieces against the initial value: that of its own piece, and else that of a main piece by a witness, which takes it with all
+/// others.
 fn start_witness(pieces: &SourcePieces) -> Option<OperationPlace>
     ensures given { (t : TraceValue) (location : List ℕ) (d : ℕ) (r : Place) → AreGiven t location d r pieces.now → IsGivenFront t location d r result }
     ensures found { (x : Place) → IsInitialWitness pieces.now x → result ≡ Some x }
@@ -306,7 +308,8 @@ fn bar_start(
     Ok(())
 }
 
-/// Bars all sources of a reader that reads the value at the location.
+/// Bars all sources of a reader that reads the value at the location. The source in its own process is found in the table by location, since a
+/// later writer of another value hides those before it.
 fn bar_sources(
     trace: &Trace,
     writers: &WriterTables,
@@ -348,6 +351,7 @@ pub fn source_clause(
     let Some(value) = op.value_read() else {
         return Err(ReasonRefusal::For(ReasonCause::NoReader));
     };
+    // What reads a value has an origin, so this is never refused.
     let Some(origin) = origin(op) else {
         return Err(ReasonRefusal::For(ReasonCause::NoReader));
     };

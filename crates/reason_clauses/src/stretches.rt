@@ -8,7 +8,8 @@ ghost use Rattle.std.specs.List.Sorted.{IsNonDecreasing};
 
 use writer_table::rising_places::RisingPlaces;
 
-/// Places in a process, 0 for none: the last one up to the bound, the first one from the limit on, and the first and the last of the others.
+/// Places in a process, 0 for none: the last one up to the bound, the first one from the limit on that is above the bound, and the first and the last of
+/// the others. These few bar all sources of the process, since its operations stand in program order.
 #[derive(Clone, Copy, Debug, PartialEq, Eq)]
 pub struct Stretches {
     pub hidden: u32,
@@ -35,6 +36,7 @@ fn cut(places: &[u32], hidden: usize, before: usize) -> Stretches
     ensures most { (n : ℕ) → All (λ p. p ≤ n) places.now → AreUpTo result n }
     ensures cut { AreCut places.now hidden before result }
 {
+    // If the limit is not above the bound, the hidden ones come first, and no others are left between.
     let start = if hidden < before { before } else { hidden };
     let up_to = place_if(places, 0, hidden, hidden.saturating_sub(1));
     let first = place_if(places, hidden, before, hidden);

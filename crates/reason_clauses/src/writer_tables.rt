@@ -7,7 +7,9 @@ use writer_table::trace_writers::TraceWriters;
 /// The operations of a trace that write, by location and value, and by location.
 #[derive(Drop)]
 pub struct WriterTables<'a> {
+    /// Those that leave a value at a location: the possible sources of a reader in other processes.
     pub by_value: TraceWriters<'a>,
+    /// All that write a location: asked for the last writers, of a process or before a reader.
     pub by_location: TraceWriters<'a>,
 }
 

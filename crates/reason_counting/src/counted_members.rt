@@ -114,7 +114,7 @@ fn keep_runs(
     Ok(())
 }
 
-/// Keeps the writers of the location in the stretch.
+/// Keeps the writers of the location in the stretch, as a table by value has them: those that leave the stretch's value.
 fn keep_stretch(
     writers: &TraceWriters,
     location: &[u8],
@@ -175,7 +175,7 @@ fn keep_left<'a>(
     Ok(())
 }
 
-/// Refuses an operation that writes nothing. One that reads, too, is an update.
+/// Refuses an operation that writes nothing. One that reads, too, is an update; that it reads is asked by `left_sources`.
 fn want_writing(trace: &Trace, n: OperationPlace) -> Result<(), ReasonRefusal>
     ensures writes { OnOk result (IsKnown trace.now n × ((location : List ℕ) × IsSome (value_left_at trace.now location (named trace.now n)))) }
     ensures refused { IfErr result (IsRefusedBy (IsNoWriting trace.now n)) }
@@ -269,7 +269,8 @@ fn want_fewer(kept: &DistinctSources, count: usize) -> Result<(), ReasonRefusal>
     }
 }
 
-/// Does so for each member, as long as fewer sources are kept than there are members.
+/// Does so for each member, as long as fewer sources are kept than there are members. This is asked after each of them, so that no time is spent
+/// on further sources once the line is refused.
 fn bar_members<'a>(
     alloc: Global,
     trace: &'a Trace,
@@ -322,7 +323,7 @@ fn want_new(members: &[CountedMember], k: usize) -> Result<(), ReasonRefusal>
     Ok(())
 }
 
-/// Refuses members of which two need one source.
+/// Refuses members of which two need one source: counted twice, they would be more than their sources where they are not.
 fn want_distinct(members: &[CountedMember]) -> Result<(), ReasonRefusal>
     ensures distinct { OnOk result (AreDistinct members.now (length members.now)) }
     ensures refused { IfErr result (IsRefusedBy (IsTwiceRefused members.now)) }
@@ -352,6 +353,7 @@ pub fn counting_clause<'a>(
     want_distinct(members)?;
     let mut kept = DistinctSources::new(alloc);
     bar_members(alloc, trace, writers, members, orders, &mut kept)?;
+    // This refuses a line without members.
     want_fewer(&kept, members.len())?;
     Ok(())
 }

@@ -103,11 +103,12 @@ impl<'a> DistinctSources<'a> {
         Ok(())
     }
 
-    /// Returns whether they are fewer.
+    /// Returns whether the operations and the locations together are fewer than this.
     pub fn are_fewer(&self, count: usize) -> bool
         ensures enough { result ≡ false → count ≤ length self.now.operations.items + length self.now.locations.items }
         ensures fewer { result ≡ true → length self.now.operations.items + length self.now.locations.items < count }
     {
+        // The sum of both lengths might be too large for its type, so the rest is compared.
         let kept = self.operations.as_slice().len();
         if kept >= count {
             return false;

@@ -45,7 +45,7 @@ fn keep_one(left: &mut Vec<LeftStretch>, n: OperationPlace, value: u64) -> Resul
 }
 
 /// Bars what may be the last writer in a run, if a piece takes it, and else keeps it: the last of the run, if it leaves the final value or
-/// there is none. Returns whether the run has an operation.
+/// there is none. An earlier one of the run is never the last writer. Returns whether the run has an operation.
 fn bar_taken_last(
     trace: &Trace,
     location: &[u8],
@@ -133,6 +133,7 @@ pub fn left_ends<'a>(
     trace.recall_invariant();
     let final_value = value_at(trace.final_values(), location);
     want_late_pieces(trace, pieces, location, final_value)?;
+    // A table by location asks for no value, so 0 stands for any.
     let runs = writers.by_location.runs(location, 0);
     let mut stretches = Vec::new(alloc);
     let is_written = bar_taken_lasts(

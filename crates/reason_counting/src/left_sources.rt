@@ -34,7 +34,8 @@ use trace_semantics::trace::Trace;
 use writer_table::operation_place::OperationPlace;
 use writer_table::runs::Run;
 
-/// Writers of a value in one process, from the first place to the last.
+/// Writers of a value in one process, from the first place to the last. Both are counted from 1 and belong to it. Of the operations between them only those
+/// count that leave the value at the location of the `LeftSources`.
 #[derive(Clone, Copy, Debug, PartialEq, Eq)]
 pub struct LeftStretch {
     pub process: u32,
@@ -75,7 +76,8 @@ fn keep_main(
     Ok(())
 }
 
-/// Bars what a piece takes of a process, and keeps the main stretch.
+/// Bars what a piece takes of a process, and keeps the main stretch: `bar_process` gets the stretches without it, so the main piece that is named there
+/// bars nothing.
 fn bar_taken(
     orders: &mut Vec<OrderPair>,
     reader: OperationPlace,
@@ -162,7 +164,7 @@ fn bar_taken_other(
     Ok(())
 }
 
-/// The same; in the reader's own process that is the source at this place, or none.
+/// The same; in the reader's own process that is the source at this place, or none if it is 0.
 fn bar_taken_run(
     trace: &Trace,
     reader: OperationPlace,
@@ -267,7 +269,8 @@ fn bar_taken_sources(
     Ok(is_left)
 }
 
-/// Appends what bars the sources of the reader that a piece takes, and returns the others.
+/// Appends what bars the sources of the reader that a piece takes, and returns the others. A main piece takes none here: the makers of lines that call
+/// this have no such piece.
 pub fn left_sources<'a>(
     alloc: Global,
     trace: &'a Trace,
@@ -287,6 +290,7 @@ pub fn left_sources<'a>(
     let Some(value) = op.value_read() else {
         return Err(ReasonRefusal::For(ReasonCause::NoReader));
     };
+    // What reads a value has an origin, so this is never refused.
     let Some(origin) = origin(op) else {
         return Err(ReasonRefusal::For(ReasonCause::NoReader));
     };

@@ -15,8 +15,11 @@ use trace_semantics::trace::Trace;
 /// writes the location.
 #[derive(Clone, Copy, Debug, PartialEq, Eq)]
 pub struct Tally {
+    /// Number of the updates that read the value there.
     pub wanting: usize,
+    /// Number of the operations that leave the value there, updates among them.
     pub leaving: usize,
+    /// Whether any of the operations writes the location, be it another value.
     pub is_written: bool,
 }
 

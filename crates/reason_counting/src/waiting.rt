@@ -87,7 +87,8 @@ fn first_in(first: &[u32], process: u32) -> u32
     if q < first.len() { first[q] } else { 0 }
 }
 
-/// Refuses an operation that may come before all of its waiting set.
+/// Refuses an operation that may come before all of its waiting set: one in whose process no operation waits at its place
+/// or before it.
 fn want_behind(trace: &Trace, first: &[u32], n: OperationPlace) -> Result<(), ReasonRefusal>
     ensures known { OnOk result (IsKnown trace.now n) }
     ensures behind { OnOk result ((members : List Place) → HoldMembers members first.now → IsBehindOne trace.now (map (named trace.now) members) (named trace.now n)) }
@@ -125,7 +126,7 @@ fn wait_for_operation(
     Ok(())
 }
 
-/// Refuses a stretch whose operations may come before all of the waiting set.
+/// Refuses a stretch whose operations may come before all of the waiting set. Its first one is asked alone, since the others stand after it.
 fn want_stretch_behind(
     trace: &Trace,
     first: &[u32],
@@ -231,6 +232,7 @@ pub fn waiting_clause(
 {
     one_comes_first();
     let count = waiters.len();
+    // No orders would make the empty clause, which says that the trace has no legal schedule.
     if count == 0 {
         return Err(ReasonRefusal::For(ReasonCause::BadLine));
     }

@@ -7,7 +7,8 @@ ghost use Rattle.order_clauses.specs.declared.order_pair.OrderPair.{OrderPair as
 use order_clauses::order_pair::OrderPair;
 use std::alloc::{AllocError, Global};
 
-/// How many orders at the front no later one repeats: a sentence has one more than it lists of others.
+/// How many orders at the front no later one repeats: a sentence has its first order, and lists the next twelve. Comparing with these alone
+/// keeps the time linear; an order that repeats one further back is counted once more among those that are not listed.
 const MOST_DISTINCT: usize = 13;
 
 /// Returns whether both are one order.

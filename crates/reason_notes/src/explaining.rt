@@ -15,7 +15,7 @@ use reason_clauses::cause::ReasonRefusal;
 use std::alloc::{AllocError, Global};
 use trace_semantics::trace::Trace;
 
-/// The most lines that are noted.
+/// The most lines that are noted. Lines that make no clause, as comments, are not counted. `specs/Noted.antt` has the number itself.
 const MOST_NOTED: usize = 40;
 
 /// The notes of the certificate, which is accepted and has this number of clauses.
@@ -33,7 +33,8 @@ fn notes_of_accepted(
     Ok(notes)
 }
 
-/// The notes, or none if something is refused.
+/// The notes, or none if something is refused. Lines that were accepted are not expected to be refused when they are read again; no contract
+/// says so.
 fn notes_if_made(notes: Result<Vec<u8>, ReasonRefusal>) -> Result<Option<Vec<u8>>, AllocError>
     ensures { IfOk result (λ made. IfSome made (λ text. notes ≡ Ok text)) }
 {
@@ -60,7 +61,8 @@ pub fn notes_of_reasons(
     }
 }
 
-/// Adds the lines, of which the last one has its line feed.
+/// Adds the lines, of which the last one has its line feed. Each has its `note: ` already, and `Notes::line` adds a line feed, so the last one is
+/// taken off first.
 fn add_lines(notes: &mut Notes, lines: &[u8]) {
     match lines {
         [front @ .., b'\n'] => notes.line(&[front]),

@@ -21,7 +21,7 @@ pub enum LinesWanted {
     Ended,
 }
 
-/// Appends a line that is noted. If it leaves no order, it is the last.
+/// Appends a line that is noted. If it leaves no order, its clause is empty and the certificate ends with it: what follows is not read.
 fn add_line<'a>(
     noted: &mut Vec<NotedLine<'a>>,
     next: NotedLine<'a>,
@@ -65,6 +65,7 @@ pub fn first_lines<'a>(
     let tables = tables_of(alloc, trace)?;
     let mut noted = Vec::new(alloc);
     while let Some((line, after)) = cut_line(rest) {
+        // This is asked before a line is read, so that no line is read in vain; a line without a clause does not count.
         if noted.len() >= most {
             return Ok(noted);
         }

@@ -57,7 +57,8 @@ fn cycle_orders(
     Ok(LineOrders::Made(kept))
 }
 
-/// That of a before pair.
+/// That of a before pair, if the trace has it; else the line is refused. The place at which the table has it in the trace's list is looked at
+/// first, which saves a search of the list.
 fn pair_orders(
     alloc: Global,
     trace: &Trace,
@@ -152,7 +153,8 @@ fn waiting_orders(
     Ok(LineOrders::Made(kept))
 }
 
-/// None, if updates of the location that read the value are more than the sources of it.
+/// None, if updates of the location that read the value are more than the sources of it: the clause is empty, which is a contradiction. If
+/// they are not more, the line is refused.
 fn too_few_orders(
     alloc: Global,
     trace: &Trace,
@@ -165,7 +167,8 @@ fn too_few_orders(
     Ok(LineOrders::Made(Vec::new(alloc)))
 }
 
-/// The orders of the line's clause, which follows from the trace, if it makes one.
+/// The orders of the line's clause, which follows from the trace, if it makes one. Orders that program order denies are left out of the clause
+/// by those that make it, so a clause without orders is a contradiction.
 pub fn orders_of_line<'a>(
     alloc: Global,
     trace: &'a Trace,

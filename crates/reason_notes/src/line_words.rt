@@ -48,7 +48,7 @@ fn push_first(
     }
 }
 
-/// Appends that the operations do not stand in a cycle.
+/// Appends that the operations do not stand in a cycle: each before the next, and the last before the first, which is named again at the end.
 fn push_cycle(
     text: &mut Vec<u8>,
     trace: &Trace,
@@ -78,7 +78,7 @@ fn push_source(
     Ok(())
 }
 
-/// Appends how the location ends.
+/// Appends how the location ends. A trace need not give it a final value; then some write is still the last one.
 fn push_end(text: &mut Vec<u8>, location: &[u8], final_value: Option<u64>) -> Result<(), AllocError>
     ensures { OnOk result (text.new.items ≡ text.old.items ++ end_text location.now final_value) }
 {
@@ -149,7 +149,7 @@ fn push_waiting(
     push_together(text, trace, "one of these would have to come first", parts)
 }
 
-/// Appends why one of the orders of the line's clause stands.
+/// Appends why one of the orders of the line's clause stands. Lines without a clause have no words, and are not noted.
 pub fn push_reason(
     text: &mut Vec<u8>,
     trace: &Trace,

@@ -6,7 +6,8 @@ ghost use Rattle.reason_notes.specs.Words.{more_text};
 use itoa::Buffer;
 use std::alloc::AllocError;
 
-/// The most things of a kind that a sentence lists.
+/// The most things of a kind that a sentence lists. The contracts of this file and `specs/Words.antt` have the number itself, and
+/// `MOST_DISTINCT` in `distinct_orders.rt` is one more.
 const MOST_LISTED: usize = 12;
 
 /// The first of these.
@@ -20,7 +21,7 @@ pub fn first_of<T>(items: &[T]) -> &[T]
     }
 }
 
-/// The number of those that come after the first of these.
+/// The number of those that come after the first of these, and 0 if all are listed.
 pub fn count_after<T>(items: &[T]) -> usize
     ensures { result ≡ length items.now - 12 }
 {

@@ -17,17 +17,18 @@ use trace_semantics::trace::Trace;
 #[derive(Drop)]
 pub struct NotedLine<'a> {
     pub line: ReasonLine<'a>,
+    /// The literals of its clause, without repetitions among the first; none if the line is a contradiction by itself.
     pub orders: Vec<OrderPair>,
 }
 
 /// What came of a line.
 #[derive(Drop)]
 pub enum LineNote<'a> {
-    /// Nothing is noted of it.
+    /// Nothing is noted of it: it is empty, a comment, or numbers a pair.
     Passed,
     /// It is noted.
     Noted(NotedLine<'a>),
-    /// A derivation follows.
+    /// A derivation follows, which has no lines of this kind: reading ends here.
     End,
 }
 

@@ -37,7 +37,7 @@ fn push_lines(
     Ok(())
 }
 
-/// The notes of the lines, of a certificate that has this number of them.
+/// The notes of the lines, of a certificate that has this number of lines with a clause, and how many of these are left out.
 pub fn text_of_lines(
     alloc: Global,
     trace: &Trace,

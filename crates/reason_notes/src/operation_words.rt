@@ -14,7 +14,7 @@ use trace_semantics::operation::Op;
 use trace_semantics::trace::Trace;
 use writer_table::operation_place::OperationPlace;
 
-/// The name of the process of this number, or no bytes if there is none.
+/// The name of the process of this number, which counts from 0, or no bytes if there is none.
 fn process_name(trace: &Trace, number: u32) -> &[u8]
     ensures { result.now ≡ slice_index_or (map (λ (p : TraceProcess). p.name) trace.now.processes) number [] }
 {
@@ -26,7 +26,7 @@ fn process_name(trace: &Trace, number: u32) -> &[u8]
     processes[q].name.as_bytes()
 }
 
-/// Appends the name of the operation.
+/// Appends the name of the operation, as `P.3`: its process and its place in it, which counts from 1.
 pub fn push_name(text: &mut Vec<u8>, trace: &Trace, n: OperationPlace) -> Result<(), AllocError>
     ensures { OnOk result (text.new.items ≡ text.old.items ++ operation_word trace.now n) }
 {
@@ -35,7 +35,7 @@ pub fn push_name(text: &mut Vec<u8>, trace: &Trace, n: OperationPlace) -> Result
     push_number(text, u64::from(n.place))
 }
 
-/// Appends what the operation reads, as ` reads 0 at x`.
+/// Appends what the operation reads, as ` reads 0 at x`, and nothing for a write.
 fn push_value_read(text: &mut Vec<u8>, op: &Op) -> Result<(), AllocError>
     ensures { OnOk result (text.new.items ≡ text.old.items ++ value_text (location_of op.now) (value_read op.now)) }
 {

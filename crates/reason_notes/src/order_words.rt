@@ -30,7 +30,7 @@ fn push_others(text: &mut Vec<u8>, trace: &Trace, others: &[OrderPair]) -> Resul
     Ok(())
 }
 
-/// Appends the orders of which one stands, or that there is none.
+/// Appends the orders of which one stands, or that there is none: the first one, up to twelve others, and how many more there are.
 pub fn push_orders(
     text: &mut Vec<u8>,
     trace: &Trace,

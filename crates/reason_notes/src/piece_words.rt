@@ -1,4 +1,7 @@
 //! The words of pieces: from where a value may be, and what that asks.
+//!
+//! A piece takes a stretch of the possible sources of a reader, or of the last writers of a location, and says which order bars them. A witness
+//! writes the location or reads another value there, so that what was written before it is not read after it.
 
 ghost use Rattle.std.specs.Prelude.{◌≡◌, ◌++◌, OnOk};
 ghost use Rattle.std.specs.List.{flat_map, list_any};
@@ -37,7 +40,7 @@ fn push_up_to(
     push_hidden(text, trace, witness)
 }
 
-/// Appends that the value is from this operation or a later one.
+/// Appends that the value is from this operation or a later one of its process, which asks that the operation stands before the reader.
 fn push_later(text: &mut Vec<u8>, trace: &Trace, limit: OperationPlace) -> Result<(), AllocError>
     ensures { OnOk result (text.new.items ≡ text.old.items ++ piece_text trace.now (Later limit)) }
 {
@@ -67,7 +70,7 @@ fn push_others(text: &mut Vec<u8>, trace: &Trace, witness: OperationPlace) -> Re
     push_hidden(text, trace, witness)
 }
 
-/// Appends that the value is from any other, and the operation not between that and the reader.
+/// Appends that the value is from any other, and the operation not between that and the reader. The initial value is none of these others.
 fn push_apart(
     text: &mut Vec<u8>,
     trace: &Trace,
@@ -136,7 +139,7 @@ fn has_main(pieces: &[SourcePiece]) -> bool
     pieces.iter().any(|piece| is_main(*piece))
 }
 
-/// The words on the sources that no piece takes.
+/// The words on the sources that no piece takes: they have to stand before the reader. If one of the pieces takes all others, none are left.
 pub fn rest_words(pieces: &[SourcePiece]) -> &'static str
     ensures { result.now ≡ rest_text pieces.now }
 {
@@ -149,7 +152,7 @@ pub fn rest_words(pieces: &[SourcePiece]) -> &'static str
     ", or from an operation before it"
 }
 
-/// The words on last writers if there is no piece.
+/// The words on last writers if there is no piece: no writer may be the last one, since each that could be needs a piece.
 pub fn last_words(pieces: &[SourcePiece]) -> &'static str
     ensures { result.now ≡ last_rest pieces.now }
 {

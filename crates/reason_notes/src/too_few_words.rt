@@ -38,7 +38,8 @@ fn push_if(text: &mut Vec<u8>, holds: bool, words: &str) -> Result<(), AllocErro
     Ok(())
 }
 
-/// Returns whether the location ends with the value and is written.
+/// Returns whether the location ends with the value and is written. Its end then needs a source of its own, as an update does; the end of a
+/// location that is never written is its initial value.
 fn ends_with(trace: &Trace, location: &[u8], value: u64, tally: Tally) -> bool
     requires { IsTallyOfTrace trace.now location.now value tally }
     ensures { result ≡ ends_with trace.now location.now value }

@@ -26,7 +26,7 @@ pub fn is_kind(word: &[u8], kind: &str) -> bool
     is_word(word, kind)
 }
 
-/// The value that the word writes, in decimal without leading zeros.
+/// The value that the word writes, in decimal without leading zeros; none if it is no such number or too large for 64 bits.
 pub fn read_value(word: &[u8]) -> Option<u64>
     ensures { MatchOption result ((value : ℕ) → value < 2 ^ 64 → word.now ≡ decimal value → ⊥) (λ value. word.now ≡ decimal value) }
 {
@@ -44,7 +44,7 @@ pub fn want_end(rest: &[u8]) -> Result<(), ReasonRefusal>
     }
 }
 
-/// The operations that the words of the line name.
+/// The operations that the words of the line name, up to its end. No words are no operations, and no fault here.
 #[tactic(auto, using(crate::proofs::WordLemmas::next_word, crate::proofs::WordLemmas::last_word))]
 pub fn read_operations<'a>(
     alloc: Global,

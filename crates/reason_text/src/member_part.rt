@@ -98,7 +98,8 @@ fn cut_part<'a>(
     Ok((MemberPart::Piece(piece), end))
 }
 
-/// The members that the words of the line are, with their pieces.
+/// The members that the words of the line are, with their pieces, in order: a piece belongs to the last member before it. Whether it may stand there is
+/// not asked here.
 #[tactic(auto, using(crate::proofs::PieceLemmas::next_part, crate::proofs::PieceLemmas::last_part))]
 pub fn read_parts<'a>(
     alloc: Global,

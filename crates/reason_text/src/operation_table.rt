@@ -27,7 +27,9 @@ use writer_table::operation_place::OperationPlace;
 #[derive(Drop)]
 pub struct OperationTable<'a> {
     trace: &'a Trace,
+    /// The limits of the trace's schedules: a place above them is no name's.
     limits: Limits,
+    /// For each process its number, counted from 0. Its name in the trace is compared again before the number is relied on.
     numbers: NameTable<'a>,
 }
 
@@ -47,7 +49,7 @@ fn cut_at_dot(word: &[u8]) -> Option<(&[u8], &[u8])>
     Some((&word[..dot], &word[dot + 1..]))
 }
 
-/// The process and the place of the name that the word spells.
+/// The process and the place of the name that the word spells: the process up to the first dot, and the place after it, counted from 1.
 fn read_name(limits: Limits, word: &[u8]) -> Option<(&[u8], u32)>
     ensures { MatchOption result (is_some (name_fault limits 0 word.now) ≡ true)
         (λ name. (name_fault limits 0 word.now ≡ None) × (name.0.now ≡ before_first is_dot word.now) × (place_within limits (after_first is_dot word.now) ≡ Some name.1)) }
@@ -135,7 +137,7 @@ impl<'a> OperationTable<'a> {
         operation_at(self.trace, small, process, place)
     }
 
-    /// The operation that the word names.
+    /// The operation that the word names. A word that is no name is a bad line; a name of no operation of the trace has a cause of its own.
     pub fn operation(&self, word: &'a [u8]) -> Result<OperationPlace, ReasonRefusal>
         ensures named { IfOk result (λ n. word.now ≡ operation_word self.now.trace.now n) }
         ensures known { IfOk result (IsKnown self.now.trace.now) }

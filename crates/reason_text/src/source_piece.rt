@@ -75,7 +75,7 @@ fn cut_hidden<'a>(
     Ok((SourcePiece::Hidden(witness, bound), end))
 }
 
-/// The piece of one operation that the word begins, and what follows it in the line.
+/// The piece of one operation that the word begins, and what follows it in the line. The caller has asked `begins_piece`, so `piece_of` gives one.
 fn cut_single<'a>(
     table: &OperationTable<'a>,
     kind: &'a [u8],
@@ -113,7 +113,7 @@ pub fn cut_piece<'a>(
     cut_single(table, kind, rest)
 }
 
-/// The pieces that the words of the line are.
+/// The pieces that the words of the line are. Whether one stands twice, or may stand there, is not asked here.
 #[tactic(auto, using(crate::proofs::PieceLemmas::next_piece, crate::proofs::PieceLemmas::last_piece))]
 pub fn read_pieces<'a>(
     alloc: Global,

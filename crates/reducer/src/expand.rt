@@ -32,7 +32,8 @@ fn push_names(
     Ok(())
 }
 
-/// Appends the first name of a kept name, and the run after it.
+/// Appends the first name of a kept name, and the run after it. The bounds count from 0 and places from 1. So the bound
+/// before the one at the kept name's place is its place in the whole trace, and the one at its place ends the run.
 fn push_run(
     alloc: Global,
     names: &mut Vec<OpName>,
@@ -50,6 +51,7 @@ fn push_run(
             let place = name.place as usize;
             push_names(alloc, names, process, places[place - 1], places[place])
         }
+        // not reached: the contract asks for a name of the kept trace
         None => Ok(()),
     }
 }

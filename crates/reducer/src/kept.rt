@@ -24,6 +24,7 @@ pub fn count_kept(trace: &Trace, all: &[KeptPlaces]) -> usize
     trace.recall_invariant();
     let mut count = 0;
     for bounds in all {
+        // the last bound is no operation, and is always there
         count += bounds.as_slice().len() - 1;
     }
     count
@@ -53,7 +54,8 @@ fn kept_operations<'a>(
     Ok(ops)
 }
 
-/// Returns the process with its kept operations.
+/// Returns the process with its kept operations. `bounds` are those of this process; `left` has the places of all, by which the origins of its
+/// operations get new names.
 fn kept_process<'a>(
     alloc: Global,
     trace: &Trace,

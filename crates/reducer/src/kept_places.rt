@@ -23,6 +23,8 @@ use trace_semantics::trace::{Process, Trace};
 /// The places of the kept operations of a process, and then one more than its last place.
 #[derive(Drop)]
 pub struct KeptPlaces {
+    /// Element k is the old place of the operation at place k + 1 of the kept trace. The dropped reads after it stand directly behind it, up to the
+    /// place before element k + 1.
     places: Vec<u32>,
 }
 
@@ -45,7 +47,7 @@ impl KeptPlaces {
         self.places.as_slice()
     }
 
-    /// Returns the places of the kept operations.
+    /// Returns the places of the kept operations. The list is never empty; `saturating_sub` spares a contract that says so.
     fn places(&self) -> &[u32]
         ensures { result.now ≡ without_last self.now }
     {
@@ -83,7 +85,8 @@ fn is_repeat(earlier: &Op, op: &Op) -> bool
     }
 }
 
-/// Returns whether the operation repeats the one directly before it.
+/// Returns whether the operation repeats the one directly before it. k counts from 0. The earlier operation may be a dropped read itself: then both
+/// repeat the last kept one before them.
 fn repeats_previous(operations: &[Op], k: usize) -> bool
     requires { k < length operations.now }
     ensures { result ≡ reduction.repeats (at_place operations.now k) (at_place operations.now (k + 1)) }
@@ -91,7 +94,8 @@ fn repeats_previous(operations: &[Op], k: usize) -> bool
     0 < k && is_repeat(&operations[k - 1], &operations[k])
 }
 
-/// Returns whether the operation is kept.
+/// Returns whether the operation is kept. k counts from 0, and the set has places, which count from 1. The set has the operations that pairs and
+/// origins name: they are kept even if they repeat.
 fn is_kept<'a>(set: &OpSet<'a>, process: &'a Process, k: usize) -> bool
     requires { k < length process.now.operations }
     ensures { result ≡ keeps set.now process.now (record { process = process.now.name; place = k + 1 }) }

@@ -17,7 +17,7 @@ use std::snapshot::Snapshot;
 use text_lines::fault::PlacedFault;
 use trace_semantics::trace::Trace;
 
-/// Largest number of operations of a kept trace.
+/// Largest number of operations of a kept trace. Transitivity takes two clauses for each three operations, some 1.3 million for that number.
 const MAX_KEPT: usize = 160;
 
 /// A trace without its repeated local reads, and the places of these. The whole trace is seen by clauses alone.

@@ -1,4 +1,5 @@
-//! All refusals, each with what it means.
+//! All refusals, each with what it means. A new cause has to be added to its list here; `tests/refusals` looks whether each is there, in the
+//! order of the sources.
 
 use crate::meanings::Explained;
 use certificate::CertCause;

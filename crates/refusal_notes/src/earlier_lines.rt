@@ -11,7 +11,7 @@ fn version_word(bytes: &[u8]) -> &[u8] {
     word_at(first_kept_line(bytes), 1)
 }
 
-/// The version that the header says, or else the first one.
+/// The version that the header says, or else the first one. It is not looked at whether the header is well formed.
 pub(crate) fn version_of_header(bytes: &[u8]) -> Version {
     let word = version_word(bytes);
     if is_word(word, "3") {
@@ -74,7 +74,8 @@ pub(crate) fn count_operations(bytes: &[u8], process: &[u8]) -> Option<u64> {
     found
 }
 
-/// The count after a line, which stands within the process or not.
+/// The count after a line, which stands within the process or not. The `proc` line itself makes it 0, so a process without operations is found
+/// too.
 fn counted(found: Option<u64>, is_within: bool, line: &[u8]) -> Option<u64> {
     if !is_within {
         return found;

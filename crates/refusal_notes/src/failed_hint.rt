@@ -112,7 +112,8 @@ fn note_open(alloc: Global, notes: &mut Notes, hint: PlacedHint, literals: &[Lit
     notes.note_text(&[b"two of its literals are not false:"], &two);
 }
 
-/// Follows a hint. The answer is whether the next one follows.
+/// Follows a hint, by what the known literals make of its clause. The answer is whether to go on with the next hint: not after a
+/// contradiction, with which the step is shown, and not after a hint that fails.
 fn follow(
     alloc: Global,
     notes: &mut Notes,
@@ -151,7 +152,8 @@ fn follow_literal(
 }
 
 /// Follows the hint by the clause that it names: of an earlier step, of the list, or of the cube, whose literals are clauses after those
-/// of the list.
+/// of the list. Clauses of the list have the numbers from 1 on. Steps go first, since one may have dropped a clause of the list, or given
+/// its number to another.
 fn follow_named<L: ClauseList>(
     alloc: Global,
     notes: &mut Notes,
@@ -178,7 +180,8 @@ fn follow_named<L: ClauseList>(
     follow(alloc, notes, known, hint, clause.as_slice())
 }
 
-/// Follows the hints up to the first that fails. Groups are not followed.
+/// Follows the hints up to the first that fails, with all literals of the added clause false. Groups, which begin with a negative hint, are
+/// not followed.
 fn follow_hints<L: ClauseList>(
     alloc: Global,
     notes: &mut Notes,

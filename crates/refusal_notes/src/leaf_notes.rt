@@ -36,7 +36,7 @@ fn clauses_of(alloc: Global, text: &NamedText<'_>) -> Result<Option<TraceClauses
     }
 }
 
-/// Adds the line of this step of the leaf's section.
+/// Adds the line of this step of the leaf's section, whose steps stand below its line `proof`.
 fn note_step_of_leaf(notes: &mut Notes, text: &NamedText<'_>, leaf: u64, step: u64) {
     let number = decimal(leaf);
     let bytes = bytes_of(text);
@@ -48,7 +48,8 @@ fn note_step_of_leaf(notes: &mut Notes, text: &NamedText<'_>, leaf: u64, step: u
     }
 }
 
-/// Adds at which step the leaf's derivation is refused, and at which hint.
+/// Adds at which step the leaf's derivation is refused, and at which hint. The refusal has only the number of the leaf, from 0, so the
+/// derivation is checked once more.
 fn explain_section(
     alloc: Global,
     notes: &mut Notes,

@@ -7,7 +7,8 @@ use note_text::{GrowingText, Notes, add_quoted, decimal, word_at};
 use std::alloc::Global;
 use text_lines::words::is_word;
 
-/// Adds how many operations the trace has of the process, if that is fewer than the place. Answers whether it is.
+/// Adds how many operations the trace has of the process, if that is fewer than the place. Answers whether it is. A place of
+/// 0, which stands for a word that is no place, is never more than the number.
 fn note_place(alloc: Global, notes: &mut Notes, trace: &[u8], process: &[u8], place: u64) -> bool {
     let mut quoted = GrowingText::new(alloc);
     add_quoted(&mut quoted, process);
@@ -28,7 +29,7 @@ fn note_pair(alloc: Global, notes: &mut Notes, trace: &[u8], process: &[u8], pla
     note_place(alloc, notes, trace, process, place_of(place))
 }
 
-/// Adds why an operation that a `before` line names is none of the trace's.
+/// Adds why an operation that a `before` line names is none of the trace's: of the first one that is none.
 fn note_before(alloc: Global, notes: &mut Notes, trace: &[u8], line: &[u8]) {
     if note_pair(alloc, notes, trace, word_at(line, 1), word_at(line, 2)) {
         return;

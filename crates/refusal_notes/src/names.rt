@@ -17,7 +17,7 @@ pub(crate) fn place_of(word: &[u8]) -> u64 {
     }
 }
 
-/// Gives what stands before the first dot of the word, and what stands after it.
+/// Gives what stands before the first dot of the word, and what stands after it. No name has a dot, so the first one is the only one.
 pub(crate) fn cut_at_dot(word: &[u8]) -> Option<(&[u8], &[u8])> {
     for at in 0..word.len() {
         if word[at] == b'.' {
@@ -40,7 +40,7 @@ pub(crate) fn has_byte(word: &[u8], wanted: u8) -> bool {
     word.iter().any(|byte| *byte == wanted)
 }
 
-/// Returns whether the word is this text, in small or in capital letters.
+/// Returns whether the word is this text, in small or in capital letters. The text has to be in small letters.
 pub(crate) fn is_word_in_any_case(word: &[u8], text: &str) -> bool {
     let text = text.as_bytes();
     if word.len() != text.len() {

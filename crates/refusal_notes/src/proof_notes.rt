@@ -15,7 +15,8 @@ fn is_step(line: &[u8]) -> bool {
     !first.is_empty() && !begins_dimacs_comment(first)
 }
 
-/// The number of the line that is the step of this number after the line of number `start`, all counted from 1.
+/// The number of the line that is the step of this number after the line of number `start`, all counted from 1; 0 is above the first line. A
+/// derivation without the empty clause is refused at the step behind its last, and that is the `end` line of a section.
 pub(crate) fn line_of_step(bytes: &[u8], start: u64, step: u64) -> Option<u64> {
     let mut rest = bytes;
     let mut left = step;

@@ -245,6 +245,7 @@ fn explain_proofs(
             texts,
         )?,
         Fault::Reasons(cause, line) => explain_reasons(notes, *cause, *line as u64, texts),
+        // The callers have explained these. They are named, so that a new fault needs a branch here.
         Fault::OutOfMemory
         | Fault::Device
         | Fault::InputTooLong

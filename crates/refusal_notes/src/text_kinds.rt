@@ -39,7 +39,8 @@ impl TextKind {
     }
 }
 
-/// Returns whether the line is blank or a comment of any of the texts.
+/// Returns whether the line is blank or a comment of any of the texts: `#` begins one of a trace, `c` one of a formula. A
+/// longer word with a `c` in front begins one of a formula too, but is not passed over: it may be a name of a schedule.
 fn is_passed_over(line: &[u8]) -> bool {
     let first = word_at(line, 0);
     first.is_empty() || first[0] == b'#' || is_word(first, "c")
@@ -79,7 +80,7 @@ fn kind_of_key(first: &[u8]) -> TextKind {
     }
 }
 
-/// The kind of a text by the form of its first line.
+/// The kind of a text by the form of its first line. JSON goes before a table, as a line of it may have commas too.
 fn kind_of_form(line: &[u8]) -> TextKind {
     let first = word_at(line, 0);
     if count_words(line) == 1 && is_operation_name(first) {

@@ -43,7 +43,8 @@ fn high_place(line: &[u8]) -> Option<usize> {
     None
 }
 
-/// The word of the line that is marked.
+/// The word of the line that is marked, by its place from 0: the first one, unless the cause is one of a word. `note_cause` finds the same bad
+/// word again.
 fn marked_word(cause: TraceCause, refused: &RefusedLine<'_>) -> Option<usize> {
     let bad = match cause {
         TraceCause::NotAscii => return high_place(refused.line),
@@ -107,7 +108,8 @@ fn says_of_bytes(bytes: &[u8]) -> Option<&'static str> {
     }
 }
 
-/// Gives what is said of the line in the place of the header.
+/// Gives what is said of the line in the place of the header. The order matters: a line of the later forms may have a byte 0 or a carriage
+/// return too, which then is the reason.
 fn says_of_header(line: &[u8]) -> Option<&'static str> {
     let first = word_at(line, 0);
     if has_byte(line, 0) {

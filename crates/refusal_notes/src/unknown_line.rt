@@ -12,7 +12,7 @@ pub(crate) struct Hint {
     pub says: &'static str,
 }
 
-/// No line of a trace has as many words.
+/// No line of a trace has as many words: the longest is one as `U x 0 1 from P 1 at 5 6`, of ten. Places are looked at below this.
 const MAX_WORDS: usize = 11;
 
 /// The place of the first word after the key that begins a comment.
@@ -26,7 +26,7 @@ fn comment_place(line: &[u8]) -> Option<usize> {
     None
 }
 
-/// The place of the word `from`.
+/// The place of the word `from`. It is looked for behind the first value, as a location may have this name.
 fn from_place(line: &[u8]) -> Option<usize> {
     for place in 3..MAX_WORDS {
         if is_word(word_at(line, place), "from") {
@@ -46,7 +46,7 @@ fn at_place(line: &[u8]) -> Option<usize> {
     None
 }
 
-/// Of the words from `at` on, if the version has no times or there are not two of them.
+/// The hint on the words from `at` on, if the version has no times or there are not two of them.
 fn hint_of_times(line: &[u8], version: Version) -> Option<Hint> {
     let place = at_place(line)?;
     if !version.has_times() {
@@ -64,7 +64,7 @@ fn hint_of_times(line: &[u8], version: Version) -> Option<Hint> {
     })
 }
 
-/// Of a line with the word `from` at this place.
+/// The hint on a line with the word `from` at this place.
 fn hint_of_from(line: &[u8], version: Version, place: usize) -> Hint {
     let key = word_at(line, 0);
     if !version.has_version_2_lines() {
@@ -91,7 +91,7 @@ fn hint_of_from(line: &[u8], version: Version, place: usize) -> Hint {
     }
 }
 
-/// Of a line whose key is R, W or U.
+/// The hint on a line whose key is R, W or U. Times come first, as they stand behind all else and may be the only fault.
 fn hint_of_operation(line: &[u8], version: Version) -> Hint {
     if let Some(hint) = hint_of_times(line, version) {
         return hint;
@@ -111,7 +111,7 @@ fn hint_of_operation(line: &[u8], version: Version) -> Hint {
     }
 }
 
-/// Of a line whose key is `before`.
+/// The hint on a line whose key is `before`.
 fn hint_of_before(version: Version) -> Hint {
     if version.has_version_2_lines() {
         return Hint {
@@ -125,7 +125,7 @@ fn hint_of_before(version: Version) -> Hint {
     }
 }
 
-/// Of a line whose key a trace has, if it is one.
+/// The hint on a line whose key a trace has, if it is one.
 fn hint_of_key(line: &[u8], version: Version) -> Option<Hint> {
     let key = word_at(line, 0);
     let says = if is_word(key, "R") || is_word(key, "W") || is_word(key, "U") {
@@ -155,6 +155,7 @@ fn is_access(key: &[u8]) -> bool {
         || is_word_in_any_case(key, "cas")
 }
 
+/// Returns whether the word is a key of a trace in letters of any case. In small letters it does not come here: `hint_of_key` has a hint then.
 fn is_key_in_capitals(key: &[u8]) -> bool {
     is_word_in_any_case(key, "init")
         || is_word_in_any_case(key, "final")

@@ -51,7 +51,8 @@ pub(crate) fn note_word(alloc: Global, notes: &mut Notes, word: &[u8], fault: Wo
     notes.note_text(&[], &text);
 }
 
-/// The number of words of the line without its times.
+/// The number of words of the line without its times, which are its last three: `at` and two numbers. The shortest line with times is one as
+/// `W x 1 at 5 6`, of six words.
 fn count_without_times(line: &[u8]) -> usize {
     let count = count_words(line);
     if count > 5 && is_word(word_at(line, count - 3), "at") {
@@ -61,7 +62,8 @@ fn count_without_times(line: &[u8]) -> usize {
     }
 }
 
-/// The place of the word that names the process of the operation from which the line's value comes.
+/// The place of the word that names the process of the operation from which the line's value comes, as 4 of `R x 1 from P 1` and 5 of
+/// `U x 0 1 from P 1`. The word after it is the place of the operation. After `from init` there is none, so a word more is asked for.
 pub(crate) fn source_place(line: &[u8]) -> Option<usize> {
     let key = word_at(line, 0);
     let count = count_without_times(line);
@@ -74,11 +76,12 @@ pub(crate) fn source_place(line: &[u8]) -> Option<usize> {
     }
 }
 
+/// Returns whether the line is a `before` line, as `before P 1 Q 2`: names at the places 1 and 3, numbers at 2 and 4.
 fn is_before(line: &[u8]) -> bool {
     is_word(word_at(line, 0), "before")
 }
 
-/// The first word in the place of a name that is none.
+/// The place of the first word in the place of a name that is none. Word 1 is one in each line that has a name.
 fn bad_name_place(line: &[u8]) -> Option<usize> {
     if !is_name_word(word_at(line, 1)) {
         return Some(1);
@@ -126,7 +129,7 @@ fn bad_value(line: &[u8], word: usize) -> Option<BadWord> {
     })
 }
 
-/// The place in the source of the line's value, if it is none.
+/// The place in the source of the line's value, if it is none. It stands one word behind the process.
 fn bad_source_place(line: &[u8], limits: Limits) -> Option<BadWord> {
     match source_place(line) {
         Some(4) => bad_place(line, limits, 5),
@@ -135,7 +138,7 @@ fn bad_source_place(line: &[u8], limits: Limits) -> Option<BadWord> {
     }
 }
 
-/// The first of the line's values that is none.
+/// The first of the line's values that is none: word 2, and of an update word 3 too.
 fn bad_value_of_line(line: &[u8]) -> Option<BadWord> {
     match bad_value(line, 2) {
         Some(bad) => Some(bad),
@@ -144,7 +147,7 @@ fn bad_value_of_line(line: &[u8]) -> Option<BadWord> {
     }
 }
 
-/// The first of the line's times that is none.
+/// The first of the line's times that is none. Of a line without times no word is looked at, as both counts are equal.
 fn bad_time(line: &[u8]) -> Option<BadWord> {
     for word in count_without_times(line).saturating_add(1)..count_words(line) {
         if !is_value(word_at(line, word)) {

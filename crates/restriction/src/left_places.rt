@@ -7,6 +7,7 @@ use std::marker::Model;
 /// The old places of what remains of a process.
 #[derive(Drop)]
 pub struct LeftPlaces<'a> {
+    /// They are counted from 1 and rise.
     places: &'a [u32],
 }
 

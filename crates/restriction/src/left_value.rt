@@ -5,7 +5,7 @@ ghost use Rattle.restriction.specs.Restriction.{left_by};
 
 use trace_semantics::operation::Op;
 
-/// Returns what the operation leaves at the location, if it writes there.
+/// Returns what the operation leaves at the location, if it writes there. A plain read leaves nothing, nor does an operation on another location.
 pub fn left_at(op: &Op, location: &[u8]) -> Option<u64>
     ensures { result ≡ left_by location.now op.now }
 {

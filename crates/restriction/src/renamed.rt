@@ -39,7 +39,8 @@ pub fn count_up_to(places: &[u32], place: u32) -> usize
     places.iter().filter(|other| **other <= place).count()
 }
 
-/// Returns the operation's place in what remains.
+/// Returns the operation's place in what remains. It is the number of operations that remain up to it. So an operation that does not remain has the
+/// new place of the last before it that does, on which the expansion of `reducer` rests. 0 is the place of no operation.
 fn new_place<'a>(trace: &Trace, all: &'a [LeftPlaces<'a>], name: &OpName) -> u32
     ensures { (stays : Named → Option Old) → ArePlacesLeft trace.now stays all.now → result ≡ (naming.new_name stays name.now).place }
 {
@@ -68,6 +69,7 @@ pub fn new_name<'a>(
     })
 }
 
+/// Returns the origin with the new name of its operation, if it names one.
 fn new_origin<'a>(
     alloc: Global,
     trace: &Trace,

@@ -20,6 +20,7 @@ impl FaultCause for EntryFault {
 
     ghost name_of = { cause_name };
 
+    // From 2 on: 1 is no cause, since it says that memory ran out.
     fn number(&self) -> u8 {
         match self {
             EntryFault::Stranger => 2,

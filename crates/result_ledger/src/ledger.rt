@@ -111,6 +111,7 @@ fn split_slot(
     ensures same { IfErr result (λ back. back.0.items ≡ slots.items) }
 {
     let mut slots = slots;
+    // The insertion comes first, since it alone can fail: then no slot has changed.
     match slots.insert(place + 1, right) {
         Ok(()) => {
             slots.as_mut_slice()[place] = left;
@@ -120,7 +121,7 @@ fn split_slot(
     }
 }
 
-/// Returns whether the leaf has an answer.
+/// Returns whether the leaf has an answer. `Open` and `Skipped` are answers too.
 fn is_answered(slot: &Slot) -> bool
     ensures { IsTrue result ↔ IsSome slot.now.outcome }
 {

@@ -27,6 +27,7 @@ fn is_lrat_step(step: &Step) -> bool
             let _literals = literals.as_slice();
             is_id(*id) && hints.are_ids()
         }
+        // The first number of a deletion says nothing, so it may be 0, which is no id.
         Step::Deletion { first, ids } => *first <= MAX_ID && are_ids(ids.as_slice()),
     }
 }

@@ -24,6 +24,7 @@ fn without_proof_between<L: ClauseList>(
     ensures { IfOk result (λ leaves. AreWithoutBetween (HasProofAt (L.formula formula.now).clauses slots.now) from end leaves.items) }
 {
     let mut leaves = Vec::new(alloc);
+    // The last slot that the checker accepted, for the next ones to be compared with. Each piece begins without one.
     let mut known = None;
     for leaf in from..end {
         let slot = &slots[leaf];
@@ -41,7 +42,8 @@ fn without_proof_between<L: ClauseList>(
     Ok(leaves)
 }
 
-/// The number of the leaf with which a piece begins, by the size of pieces and the number of leaves.
+/// The number of the leaf with which a piece begins, by the size of pieces and the number of leaves. Pieces count from 0, and each ends where the next
+/// one begins. The size is rounded up, so the last pieces can be short or empty: those that would begin past the leaves begin at their end.
 fn start_of(size: usize, count: usize, piece: usize) -> usize
     requires { (size ≤ 1024) × (piece ≤ 8) }
     ensures { result ≡ piece_start size count piece }
@@ -66,7 +68,7 @@ fn without_proof_in<L: ClauseList>(
     without_proof_between(alloc, formula, slots, from, end)
 }
 
-/// The leaves of all pieces, in order, given those of each piece. The formula stands here for the clauses, which name it.
+/// The leaves of all pieces, in order, given those of each piece. The formula, the slots and the size stand here for the clauses, which name them.
 fn joined<L: ClauseList>(
     alloc: Global,
     _formula: &L,

@@ -19,6 +19,7 @@ impl FaultCause for DecodeCause {
 
     ghost name_of = { cause_name };
 
+    /// The number that a refusal prints before the name. It begins at 2, since 1 says in each table of causes that memory ran out.
     fn number(&self) -> u8 {
         match self {
             DecodeCause::NotAModel => 2,

@@ -17,6 +17,7 @@ use trace_semantics::trace::{Process, Trace};
 #[derive(Drop)]
 pub(crate) struct LentName<'a> {
     process: &'a Name,
+    /// Counted from 1.
     place: u32,
 }
 
@@ -72,7 +73,7 @@ pub(crate) fn names_by_number<'a>(
     Ok(names)
 }
 
-/// Copies of the names of these numbers, in their order.
+/// Copies of the names of these numbers, in their order. A number without a name is passed over; `order_of` gives none.
 pub(crate) fn names_in_order<'a>(
     alloc: Global,
     names: &[LentName<'a>],

@@ -49,7 +49,7 @@ impl Come {
         }
     }
 
-    /// Returns whether the operation at this place of the process in this row has come.
+    /// Returns whether the operation at this place of the process in this row has come. Places count from 1, rows from 0.
     pub fn has(&self, row: Option<u64>, place: usize) -> bool
         ensures { result ≡ is_within place (count_of_process self.now.counts.items row) }
     {
@@ -59,7 +59,8 @@ impl Come {
         }
     }
 
-    /// Notes that the operation at this place of the process in this row has come, with all before it.
+    /// Notes that the operation at this place of the process in this row has come, with all before it. The caller has made sure that those
+    /// before it came (`OutOfProgramOrder`): the count is set to the place, not raised by 1.
     pub fn take(&mut self, row: Option<u64>, place: usize) -> Result<(), AllocError>
         ensures { OnOk result (IsCountSet self.old.counts.items row place self.new.counts.items) }
     {

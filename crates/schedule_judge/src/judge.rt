@@ -37,7 +37,8 @@ fn has_come<'a>(
     come.has(row, place)
 }
 
-/// Returns whether the first `n` operations of the process, which is the one in this row, are among the first `count` names.
+/// Returns whether the first `n` operations of the process, which is the one in this row, are among the first `count` names. Operations come
+/// in program order, so it is enough to ask for the last.
 fn have_come<'a>(
     survey: &Survey<'a>,
     come: &Come,
@@ -55,7 +56,8 @@ fn have_come<'a>(
 }
 
 /// The first of the endings, from this one on, of an operation that is not among the first `count` names; past the last ending if
-/// there is none.
+/// there is none. The caller gives the answer for the name before as `from`: what has come stays so, and a whole schedule costs one walk
+/// through the endings.
 fn first_missing<'a>(survey: &Survey<'a>, come: &Come, count: usize, from: usize) -> usize
     requires come { AreCountsOfCome survey.now.processes come.now.counts.items (take count survey.now.names.now) }
     requires front { have_come_in_front (take count survey.now.names.now) survey.now.endings.items from ≡ true }
@@ -73,7 +75,8 @@ fn first_missing<'a>(survey: &Survey<'a>, come: &Come, count: usize, from: usize
 }
 
 /// Gives what is wrong with an operation after the first `count` names. Its process is the one in this row, and the first ending of
-/// an operation that has not come is at `missing`.
+/// an operation that has not come is at `missing`. If several things are wrong, the order of the questions says which is named, and the
+/// definition has the same order.
 fn fault_of_op<'a>(
     survey: &Survey<'a>,
     come: &Come,
@@ -152,7 +155,8 @@ fn fault_of_whole<'a>(survey: &Survey<'a>, come: &Come, memory: &Memory<'a>) -> 
     }
 }
 
-/// Judges a list of names by the trace: whether it is a legal schedule, or else its first fault.
+/// Judges a list of names by the trace: whether it is a legal schedule, or else its first fault and the place of the name, from 1. A fault
+/// of the whole list stands at the place after the last name.
 pub fn judge(alloc: Global, trace: &Trace, schedule: &Schedule) -> Result<Judgement, AllocError>
     ensures { IfOk result (λ judgement. IsJudgement trace.now schedule.now judgement) }
 {
@@ -167,10 +171,12 @@ pub fn judge(alloc: Global, trace: &Trace, schedule: &Schedule) -> Result<Judgem
         let Some(op) = survey.operation_at(row, name) else {
             return Ok(Judgement::Illegal(IllegalCause::UnknownOp, i + 1));
         };
+        // This is of the names before this one, which has not come yet.
         let missing = first_missing(&survey, &come, i, next);
         if let Some(cause) = fault_of_op(&survey, &come, &memory, missing, i, row, name, op) {
             return Ok(Judgement::Illegal(cause, i + 1));
         }
+        // Only an operation without a fault is run: `come` is right only while program order holds.
         memory.run(op, i)?;
         come.take(row, name.place as usize)?;
         next = missing;

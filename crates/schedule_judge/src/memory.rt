@@ -19,7 +19,9 @@ use trace_semantics::operation::{Op, OpName, Origin};
 /// What each location holds, and which name of the schedule wrote it last.
 #[derive(Drop)]
 pub struct Memory<'a> {
+    /// The value of each location that was written or has an initial value.
     pub values: NameTable<'a>,
+    /// For each location that an operation wrote, the place of its name in the schedule, from 0. Initial values have no writer.
     pub writers: NameTable<'a>,
 }
 
@@ -40,7 +42,7 @@ fn is_the_op(writer: Option<&OpName>, name: &OpName) -> bool
     }
 }
 
-/// The name at this place.
+/// The name at this place of the schedule, from 0.
 fn name_at(names: &[OpName], place: Option<u64>) -> Option<&OpName>
     ensures { option_copied result ≡ option_and_then (slice_get names.now) place }
 {
@@ -60,7 +62,7 @@ impl<'a> Memory<'a> {
         Ok(Memory { values, writers })
     }
 
-    /// Returns whether the operation reads here what its location holds.
+    /// Returns whether the operation reads here what its location holds. An operation that reads nothing does.
     pub fn reads_right(&self, op: &'a Op) -> bool
         ensures { result ≡ judgement.is_right_read (number_of self.now.values (operation.location_of op.now)) (operation.value_read op.now) }
     {
@@ -88,7 +90,8 @@ impl<'a> Memory<'a> {
         }
     }
 
-    /// Returns whether the operation reads here from where its origin says.
+    /// Returns whether the operation reads here from where its origin says. It must be asked before `run`: an update would else have itself as
+    /// the last writer.
     pub fn has_right_source(&self, names: &'a [OpName], op: &'a Op) -> bool
         ensures { result ≡ judgement.is_right_source (writer_of names.now self.now (operation.location_of op.now)) (operation.origin_of op.now) }
     {

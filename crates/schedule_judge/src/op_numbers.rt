@@ -5,7 +5,8 @@ use std::collections::HashMap;
 use trace_semantics::name_key::NameKey;
 use trace_semantics::operation::OpName;
 
-/// A number for each of some operations.
+/// A number for each of some operations, by the process's name and the operation's place in it, from 1. The number means what the owner
+/// of the table says.
 #[derive(Drop)]
 pub struct OpNumbers<'a> {
     numbers: HashMap<(NameKey<'a>, usize), usize>,
@@ -39,7 +40,7 @@ impl<'a> OpNumbers<'a> {
         self.get(name.process.as_bytes(), name.place as usize)
     }
 
-    /// Gives the operation this number.
+    /// Gives the operation this number, in place of the one that it may have.
     pub fn insert(&mut self, name: &'a OpName, number: usize) -> Result<(), AllocError>
         ensures { OnOk result ((n : OpName) → number_at self.new n ≡ cond (same_op name.now n) (Some number) (number_at self.old n)) }
     {

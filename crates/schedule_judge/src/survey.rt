@@ -25,13 +25,13 @@ pub struct Survey<'a> {
     pub trace: &'a Trace,
     pub names: &'a [OpName],
     pub processes: NameTable<'a>,
-    /// The operations that come before one that a pair puts before them.
+    /// The operations that come before one that a pair puts before them. Their number is always 0 and means nothing: the table is a set.
     pub early: OpNumbers<'a>,
     /// The operations that have spans, those that ended earlier first.
     pub endings: Vec<Ending<'a>>,
 }
 
-/// The place of each process, by its name.
+/// The place of each process, from 0, by its name.
 fn places_of_processes<'a>(
     alloc: Global,
     processes: &'a [Process],
@@ -45,7 +45,7 @@ fn places_of_processes<'a>(
     Ok(places)
 }
 
-/// The first place of each operation in a schedule.
+/// The first place of each operation in a schedule, from 0. The walk goes backwards, so that the first place is entered last and stays.
 fn first_places<'a>(alloc: Global, names: &'a [OpName]) -> Result<OpNumbers<'a>, AllocError>
     ensures { IfOk result (FindsFirst names.now) }
 {
@@ -76,7 +76,8 @@ fn is_broken(first: Option<usize>, second: Option<usize>) -> bool
     }
 }
 
-/// Returns whether the second operation comes, and the first not before it.
+/// Returns whether the second operation comes, and the first not before it. The first places of both decide: that of the second, since
+/// the judge asks of an operation only where it comes first.
 fn breaks<'a>(places: &OpNumbers<'a>, first: &'a OpName, second: &'a OpName) -> bool
     ensures { result ≡ tables.is_broken (number_at places.now first.now) (number_at places.now second.now) }
 {
@@ -136,7 +137,7 @@ fn at_place(operations: &[Op], place: usize) -> Option<&Op>
     operations.get(place - 1)
 }
 
-/// The operation at this place of the process, if there is one.
+/// The operation at this place of the process, counted from 1, if there is one.
 fn op_of(process: Option<&Process>, place: usize) -> Option<&Op>
     ensures { option_copied result ≡ option_and_then (λ p. trace_value.at_place p.operations place) (option_copied process.entry) }
 {
@@ -172,7 +173,7 @@ impl<'a> Survey<'a> {
         })
     }
 
-    /// The place of this process in the trace, if it is one of its processes.
+    /// The place of this process in the trace, from 0, if it is one of its processes.
     pub fn row_of(&self, process: &'a [u8]) -> Option<u64>
         ensures { result ≡ number_of self.now.processes process.now }
     {

@@ -42,6 +42,7 @@ fn schedule_of_beams(
     order: &Propagation<'_>,
     budget: &mut Budget,
 ) -> Result<Option<Vec<OperationId>>, AllocError> {
+    // The table of next writers has about this number of entries.
     let entries = (order.log().count() as u64).saturating_mul(order.classes().count() as u64);
     budget.spend(entries);
     let mut search = BeamSearch::new(alloc, order.log(), order.classes(), order.rows())?;

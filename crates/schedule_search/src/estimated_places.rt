@@ -1,4 +1,6 @@
 //! Estimated places of operations in a schedule.
+//!
+//! Past the end of a table `at` reads as its last argument, and `put` does nothing; so arithmetic may wrap, and a wrong place makes no fault.
 
 use numbered_log::{NOBODY, NumberedLog, OperationId, ProcessPlace};
 use order_propagation::Propagation;
@@ -9,11 +11,11 @@ use total_tables::{at, put, size};
 #[derive(Drop)]
 pub(crate) struct EstimatedPlaces {
     places: Vec<u32>,
-    /// For each operation the last place where it may lie, if that is another one.
+    /// For each operation the last place where it may lie, if that is another one. It is empty if no operation has another one.
     latest: Vec<u32>,
 }
 
-/// The share of a whole that a part has of another whole.
+/// The share of a whole that a part has of another whole. That is `whole` times `part` divided by `other`.
 fn share(whole: u32, part: u32, other: u32) -> u32 {
     if other == 0 {
         return 0;
@@ -50,6 +52,7 @@ impl EstimatedPlaces {
             if log.operation(number).place == ProcessPlace::FIRST {
                 last = 0;
             }
+            // The estimate of the rows is about twice the place. By the larger one of both, places do not fall along a process.
             last = last.max(order.rows().estimate(number) / 2);
             places.push(last)?;
         }
@@ -97,7 +100,7 @@ impl EstimatedPlaces {
     }
 }
 
-/// The place in the hint of each operation, from 1 on; 0 if it does not name it.
+/// The place in the hint of each operation, from 1 on; 0 if it does not name it. A hint of fewer operations is stretched to the number of all.
 fn hinted_places(
     alloc: Global,
     log: &NumberedLog,
@@ -143,6 +146,7 @@ fn places_behind(alloc: Global, log: &NumberedLog, hinted: &[u32]) -> Result<Vec
         }
         put(places.as_mut_slice(), number.number(), least);
         let place = at(hinted, number.number(), 0);
+        // An operation that the hint does not name bounds nothing.
         if place != 0 {
             least = least.min(place);
         }

@@ -1,4 +1,6 @@
 //! Windows: guesses around estimated places.
+//!
+//! Places of operations among all, and widths, are numbers of operations of a whole schedule; a `ProcessPlace` counts within a process, from 1.
 
 use crate::estimated_places::EstimatedPlaces;
 use numbered_log::{ProcessId, ProcessPlace};
@@ -16,6 +18,7 @@ pub(crate) fn guess_window(
     width: u32,
 ) -> Result<Propagated, AllocError> {
     let processes = order.log().processes();
+    // An operation of a process takes about as many places among all as there are processes, so such a stride is about a sixth of the width.
     let steps = processes.wrapping_mul(6).wrapping_add(1);
     let stride = (width / steps).wrapping_add(least_stride(order));
     for first in ProcessId::first(processes) {
@@ -35,7 +38,8 @@ fn least_stride(order: &Propagation<'_>) -> u32 {
 }
 
 /// Guesses the pairs from one process to another. Of operations in a row the pair of each few is enough, as the others follow within a small
-/// part of the width. An operation whose next one is guessed to stand before the same one says nothing more.
+/// part of the width. An operation whose next one is guessed to stand before the same one says nothing more. `sizes` are the width of the window and the
+/// number of operations from one guess to the next.
 fn guess_between(
     order: &mut Propagation<'_>,
     places: &EstimatedPlaces,
@@ -44,6 +48,7 @@ fn guess_between(
 ) -> Result<(), AllocError> {
     let log = order.log();
     let end = log.end(processes.1);
+    // It moves forward alone, since estimated places rise along both processes.
     let mut behind = ProcessPlace::FIRST;
     let mut place = ProcessPlace::FIRST;
     for _ in 0..log.length(processes.0) {

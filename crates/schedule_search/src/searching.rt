@@ -1,4 +1,7 @@
 //! The search for a schedule: a walk, beams, and then windows and walks.
+//!
+//! A budget counts looks at entries of tables. Rows are those of `Propagation`: after a window is cut off they have its guesses until
+//! `propagate_in_rounds` makes them anew.
 
 use crate::beams::try_beams;
 use crate::counted_cores::{operations_of, takers_of_class};
@@ -13,6 +16,7 @@ use source_counting::{Counted, count_sources, crowded_class};
 use std::alloc::{AllocError, Global};
 use total_tables::{at, size};
 
+/// The end of a search.
 #[derive(Clone, Copy, PartialEq, Eq)]
 pub enum SearchEnding {
     /// There is a schedule.
@@ -23,6 +27,7 @@ pub enum SearchEnding {
     Unknown,
 }
 
+/// A window whose guesses have met no conflict: the trail with them, and its width as a number of places among all operations.
 #[derive(Clone, Copy)]
 struct StandingWindow {
     mark: TrailMark,
@@ -94,7 +99,7 @@ fn reach_of(log: &NumberedLog) -> u32 {
 
 /// The share of the budget that the first walk has which decides always, as a part of one. It is small: of recorded logs of 2 to 8 values this
 /// walk decides few, and with a fourth of the budget it took nine tenths of the time of those that windows decide. What it decides with more,
-/// the last walk decides too.
+/// the last walk decides too. It returns the number by which the budget is divided.
 fn first_part(log: &NumberedLog) -> u64 {
     if has_many_updates(log) { 8 } else { 32 }
 }
@@ -102,7 +107,8 @@ fn first_part(log: &NumberedLog) -> u64 {
 /// The number of windows that are tried after all others.
 const OTHER_WINDOWS: u32 = 5;
 
-/// The width of the window that is tried as the one of this number after all others, given that of the first that stood.
+/// The width of the window that is tried as the one of this number after all others, given that of the first that stood. In fourths of that: it is 1.5, 2,
+/// 0.75, 3 and 4 times as wide.
 fn other_width(number: u32, first: u32) -> u32 {
     let fourths: u32 = match number {
         0 => 6,
@@ -118,7 +124,7 @@ fn other_width(number: u32, first: u32) -> u32 {
 #[derive(Clone, Copy)]
 struct Manner {
     deciding: Deciding,
-    /// Its share of the budget, as a part of one.
+    /// The number by which the budget is divided to give its share: 3 for a third, and 1 for all.
     part: u64,
 }
 
@@ -201,7 +207,7 @@ impl ScheduleSearch {
             return Ok(SearchEnding::Refuted);
         }
         let places = EstimatedPlaces::of_equal_pace(alloc, order.log())?;
-        let propagated = propagate_at_first(order)?;
+        let mut propagated = propagate_at_first(order)?;
         match propagated {
             Propagated::Conflict => {
                 self.core = core_of_conflict(alloc, order)?;
@@ -214,8 +220,12 @@ impl ScheduleSearch {
                 }
             }
         }
-        if self.try_hint(alloc, order, hint)? {
-            return Ok(SearchEnding::Scheduled);
+        if !hint.is_empty() {
+            if self.try_hint(alloc, order, hint)? {
+                return Ok(SearchEnding::Scheduled);
+            }
+            // The rows still have the guesses of the hint.
+            propagated = order.propagate_in_rounds()?;
         }
         if propagated == Propagated::Done {
             let found = self.walk_at_first(alloc, order, &places)?;
@@ -228,6 +238,7 @@ impl ScheduleSearch {
             return Ok(SearchEnding::Scheduled);
         }
         let rest = keep_a_fourth(order);
+        // The width of the first window, which `widen` doubles.
         let narrow = order.log().processes().wrapping_mul(4);
         let found = self.try_windows(alloc, order, &places, narrow)?;
         give_back(order, rest);
@@ -245,9 +256,6 @@ impl ScheduleSearch {
         order: &mut Propagation<'_>,
         hint: &[OperationId],
     ) -> Result<bool, AllocError> {
-        if hint.is_empty() {
-            return Ok(false);
-        }
         let places = EstimatedPlaces::of_hint(alloc, order.log(), hint)?;
         let rest = keep_all_but(order, 2);
         let found = self.try_windows(alloc, order, &places, 0)?;
@@ -344,6 +352,7 @@ impl ScheduleSearch {
         if ending == WalkEnding::Scheduled {
             self.schedule = Vec::from_slice(alloc, walk.placed())?;
         }
+        // This needs the conflict and its pairs, so it comes before decisions are taken back.
         if !self.is_guessing && ending == WalkEnding::Refuted {
             self.core = walk.find_core(alloc, order)?;
         }
@@ -425,7 +434,8 @@ impl ScheduleSearch {
         Ok(ending)
     }
 
-    /// Tries windows on top of what stands at the mark, from the narrowest, each twice as wide as the one before. Returns whether one stands.
+    /// Tries windows on top of what stands at the mark, from the narrowest, each twice as wide as the one before. Returns whether one stands. `widths` are
+    /// the first width and the one from which on none is tried.
     fn widen(
         &mut self,
         order: &mut Propagation<'_>,
@@ -468,6 +478,7 @@ impl ScheduleSearch {
         self.widen(order, &places, last.mark, (narrow, widest))
     }
 
+    /// The window that stands on top; if there is none, one of no width at the point that the trail has reached.
     fn last_window(&self, order: &Propagation<'_>) -> StandingWindow {
         let nothing = StandingWindow {
             mark: order.mark(),
@@ -485,6 +496,7 @@ impl ScheduleSearch {
     ) -> Result<SearchEnding, AllocError> {
         for _ in 0..=MOST_NARROWINGS {
             let window = self.last_window(order);
+            // What is left is divided by this for each of the two walks, so that something is left for the wider windows.
             let part = (size(self.windows.as_slice()) as u64).saturating_add(2);
             if self.windows.pop().is_none() {
                 break;
@@ -568,7 +580,8 @@ fn search_ending(found: WalkEnding) -> Option<SearchEnding> {
     }
 }
 
-/// Leaves to the order a share of its budget, as a part of one, and returns the rest.
+/// Leaves to the order a share of its budget, as a part of one, and returns the rest. The share is the budget divided by `part`. What is returned must come
+/// back by `give_back`, or it is lost.
 pub(crate) fn keep_all_but(order: &mut Propagation<'_>, part: u64) -> Budget {
     let mut rest = order.budget();
     let mut steps = rest.left();

@@ -25,6 +25,7 @@ impl FaultCause for ScheduleCause {
 
     fn number(&self) -> u8 {
         match self {
+            // 1 says that memory ran out, for faults of all kinds
             ScheduleCause::BadName => 2,
             ScheduleCause::BadNumber => 3,
             ScheduleCause::TooMany => 4,

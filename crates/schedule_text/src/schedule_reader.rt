@@ -58,6 +58,7 @@ fn read_name(limits: Limits, word: &[u8], earlier: usize) -> Result<(&[u8], u32)
     let Some(place) = read_place_within(limits, place) else {
         return Err(ScheduleCause::BadNumber);
     };
+    // last, so a line past the limit that has no name is a `BadName` or `BadNumber`
     if earlier >= limits.max_operations() {
         return Err(ScheduleCause::TooMany);
     }

@@ -11,12 +11,15 @@ use std::sync::Mutex;
 /// The seats, each of which the job of one leaf runs, what they gave after the round before, and how many conflicts a seat may have.
 #[derive(Drop)]
 pub(crate) struct Round<S> {
+    /// By the number of the leaf that stands for the seat, from 0.
     pub(crate) seats: Vec<Mutex<Seat<S>>>,
+    /// By the number of the seat that gave them. They stay the same while the round runs, so that what a seat takes in does not depend on which runs first.
     pub(crate) given: Vec<SharedClauses>,
     pub(crate) conflicts: u64,
 }
 
-/// Returns the number of the leaf of this cube in a full tree.
+/// Returns the number of the leaf of this cube in a full tree, from 0. The cube's literals stand from the root on, and a negative one leads to the right:
+/// they are the number's bits, the highest first.
 fn leaf_of(cube: &[Lit]) -> usize {
     let mut leaf: usize = 0;
     for literal in cube {
@@ -30,6 +33,7 @@ fn leaf_of(cube: &[Lit]) -> usize {
 
 impl<S: SharingLearner + Drop> CubeSolver for Round<S> {
     fn solve(&self, _alloc: Global, cube: &[Lit], _budget: u64) -> Result<Answer, AllocError> {
+        // The budget of a cube is not asked: a seat goes by the conflicts of the round, and the answer, which is open, has no steps.
         let number = leaf_of(cube);
         let Some(slot) = self.seats.get(number) else {
             return Ok(Answer::Open);
@@ -42,6 +46,7 @@ impl<S: SharingLearner + Drop> CubeSolver for Round<S> {
         Ok(Answer::Open)
     }
 
+    // The round counts the additions of its seats, and reports them itself.
     fn take_conflicts(&self) -> u64 {
         0
     }

@@ -70,12 +70,15 @@ pub fn search_by_seats<
     let leaves = leaves_of(alloc, tree)?;
     let count = searches.len().max(1) as u64;
     let mut seats = Seats::new(alloc, searches)?;
+    // Before the first round the only additions are those of the first search, which has begun before.
     let mut left = budget.saturating_sub(seats.additions());
+    // Each round takes at least one conflict off what is left, so there is none after this number of rounds.
     for _ in 0..budget {
         let conflicts = ROUND_CONFLICTS.min(left / count);
         if conflicts == 0 {
             return Ok(Answer::Open);
         }
+        // All seats are charged what they may use, also those that wait, so the number of rounds does not depend on what they use.
         left = left.saturating_sub(conflicts.saturating_mul(count));
         let had = run_round(
             alloc,

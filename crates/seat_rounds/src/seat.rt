@@ -7,6 +7,7 @@ use std::alloc::AllocError;
 #[derive(Drop)]
 pub(crate) struct Seat<S> {
     pub(crate) attempt: Attempt<S>,
+    /// `None` if it found no memory.
     pub(crate) end: Option<SearchEnd>,
 }
 

@@ -14,6 +14,7 @@ use std::sync::Mutex;
 pub(crate) struct Seats<S> {
     alloc: Global,
     pub(crate) round: Round<S>,
+    /// The logs of all rounds before the last one, in the order in which a derivation may use them.
     chain: LogChain,
     /// A number that no addition has, and none after it.
     next: u32,
@@ -54,9 +55,11 @@ impl<S: SharingLearner + Drop> Seats<S> {
         additions
     }
 
-    /// Puts the logs of the last round behind those of the rounds before, by the number of the seat. Each seat begins a log for a round of this
+    /// Puts the logs of the last round behind those of the rounds before, by the number of the seat. What a seat takes in was given before the round, so an
+    /// addition rests on its own log and on those of earlier rounds, as `LogChain` asks. Each seat begins a log for a round of this
     /// many conflicts, with numbers that no other has.
     fn collect_logs(&mut self, conflicts: u64) -> Result<(), AllocError> {
+        // A conflict makes at most one addition, so a seat needs at most this number of ids.
         let step = u32::try_from(conflicts).unwrap_or(u32::MAX);
         for slot in self.round.seats.iter_mut() {
             let seat = slot.get_mut();
@@ -96,7 +99,8 @@ impl<S: SharingLearner + Drop> Seats<S> {
         }
     }
 
-    /// Returns the answer of the first seat that has one: a model, or a derivation of at most `budget` steps.
+    /// Returns the answer of the first seat that has one: a model, or a derivation of at most `budget` steps. If the derivation is longer, the answer is
+    /// `Open`, and the search ends with it.
     pub(crate) fn answer(&mut self, budget: u64) -> Result<Option<Answer>, AllocError>
         ensures { IfOk result (λ found. IfSome found (λ answer. IsWithin budget answer)) }
     {
@@ -108,6 +112,7 @@ impl<S: SharingLearner + Drop> Seats<S> {
                     return Ok(Some(Answer::Model(model)));
                 }
                 Some(SearchEnd::Refuted) => {
+                    // Its last addition, the empty clause. It is asked before the logs are collected, after which this log is empty.
                     let clause = seat.attempt.log.next_id().wrapping_sub(1);
                     let answer = self.refutation(clause, budget)?;
                     return Ok(Some(answer));

@@ -7,6 +7,7 @@ use std::marker::Model;
 /// A list of at most `N` elements. They lie in the value itself, so it needs no memory of its own.
 #[derive(Drop)]
 pub struct InlineList<T, const N: usize> {
+    /// The elements, and past `length` values that are never read.
     places: [T; N],
     length: usize,
 }

@@ -1,5 +1,7 @@
 //! Conflict analysis: resolves from a conflict back to the first unique implication point (1-UIP; Marques-Silva and Sakallah, 1996, and
 //! Zhang, Madigan, Moskewicz and Malik, 2001), and learns the clause that is left.
+//!
+//! A literal is given by its code: twice its variable, plus one if it is negative. So `^ 1` negates it, and `>> 1` gives its variable.
 
 use crate::search::Search;
 use clause_database::ReasonClause;
@@ -8,7 +10,7 @@ use total_tables::{at, put};
 
 /// Nothing is known of the variable.
 pub const UNSEEN: u8 = 0;
-/// It is in the learned clause, or in a clause that was resolved away.
+/// It is in the learned clause, or was resolved away.
 pub const SEEN: u8 = 1;
 /// Its literal is redundant: other literals of the learned clause imply it, so that it can be left out.
 pub const REDUNDANT: u8 = 2;
@@ -40,9 +42,11 @@ impl<'a> Search<'a> {
     }
 
     /// Resolves with this clause. Its literals of earlier levels join the learned clause; those of level 0 are false for good: they are
-    /// left out, and their reasons become hints. Returns how many new literals are of the current level.
+    /// left out, and their reasons become hints. Returns how many new literals are of the current level. A variable that has a mark was met before;
+    /// the literal that the clause has implied is passed over so too.
     fn resolve(&mut self, reason: ReasonClause) -> Result<u32, AllocError> {
         self.resolved.push(reason.id)?;
+        // A clause that is not in the arena is never dropped, so its use is not noted.
         if reason.place != 0 {
             self.note_use(reason.place);
         }
@@ -71,13 +75,15 @@ impl<'a> Search<'a> {
     }
 
     /// Learns from the conflict: walks back over the trail until one literal of the current level is left, the first unique implication
-    /// point, and puts its negation first. At level 0 none is left, and the learned clause is empty.
+    /// point, and puts its negation first. At level 0 none is left, and the learned clause is empty. The other literals must be minimised before
+    /// hints are gathered, since the reasons of what is left out are hints too; both read the marks.
     pub(crate) fn analyze(&mut self, conflict: ReasonClause) -> Result<(), AllocError> {
         self.learned.clear();
         self.resolved.clear();
         self.pending.clear();
         // Room for the literal of the first unique implication point.
         self.learned.push(0)?;
+        // Literals of the current level that were met and are not resolved away yet.
         let mut open = self.resolve(conflict)?;
         if open == 0 {
             self.learned.clear();

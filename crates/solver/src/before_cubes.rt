@@ -1,4 +1,6 @@
 //! What is searched before the cubes of a formula are.
+//!
+//! A literal is given by its code: twice its variable, plus one if it is negative. So `^ 1` negates it, and `>> 1` gives its variable.
 
 use crate::prepared_formula::PreparedFormula;
 use crate::schedule_heuristic::suits_a_schedule;
@@ -40,7 +42,7 @@ const WHOLE_CONFLICTS: u64 = 500;
 /// Conflicts of a search of the formula itself that takes turns with one along a schedule. It is not handed on.
 const SCHEDULE_CONFLICTS: u64 = 8000;
 
-/// Returns the codes of the literals of the first cube over these variables: all of them are true in it.
+/// Returns the codes of the literals of the first cube over these variables: all of them are true in it. The code of a positive literal is even.
 fn first_cube(alloc: Global, splits: &[u32]) -> Result<Vec<u32>, AllocError> {
     let mut codes = Vec::with_capacity(alloc, splits.len())?;
     for variable in splits {
@@ -119,7 +121,7 @@ impl<'a> PreparedFormula<'a> {
     }
 
     /// Searches the cubes after the first, until one is not refuted or the conflicts of all of them are used up. Returns whether that settles
-    /// the formula: there is a model, or no cube is left.
+    /// the formula: there is a model, or no cube is left. The codes are those of the first cube, which counts as one of `FIRST_CUBES`.
     fn search_next_cubes(
         &mut self,
         alloc: Global,

@@ -1,4 +1,6 @@
 //! Values that are tried first, from the longest trails without a conflict (Biere and Fleury, "Chasing target phases", 2020).
+//!
+//! A literal is given by its code: twice its variable, plus one if it is negative. So `^ 1` negates it, and `>> 1` gives its variable.
 
 use assignment_trail::Trail;
 use std::alloc::{AllocError, Global};
@@ -24,7 +26,9 @@ enum Change {
 /// The values of the longest trail without a conflict, by variable: 0 for true, 1 for false.
 #[derive(Drop)]
 struct LongestTrail {
+    /// The length of that trail. At 0 the next trail is noted, however short.
     count: u32,
+    /// For each variable its value, or `NONE`.
     values: Vec<u8>,
 }
 
@@ -64,10 +68,13 @@ impl LongestTrail {
 pub(crate) struct FirstValues {
     /// The number of the search, which says how its values change.
     number: u32,
+    /// The number of changes so far.
     changes: u32,
     /// The conflicts after which they change next.
     next_change: u32,
+    /// The longest trail since the last change, whose values decisions take.
     target: LongestTrail,
+    /// The longest trail since the last change to the best values. A change to others leaves it.
     best: LongestTrail,
 }
 
@@ -87,7 +94,7 @@ impl FirstValues {
         })
     }
 
-    /// Notes the levels of the trail before the one at hand, in which there is a conflict.
+    /// Notes the levels of the trail before the one at hand, in which there is a conflict. So it must be called before the search backtracks.
     pub(crate) fn note(&mut self, trail: &Trail) {
         let level = trail.level();
         if level == 0 {

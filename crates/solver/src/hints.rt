@@ -1,4 +1,6 @@
 //! LRAT hints of a learned clause: the clauses by which unit propagation refutes its negation, in the order of their use.
+//!
+//! A literal is given by its code: twice its variable, plus one if it is negative. So `^ 1` negates it, and `>> 1` gives its variable.
 
 use crate::analyze::{NEEDED, SEEN, UNSEEN};
 use crate::search::Search;
@@ -25,6 +27,7 @@ impl<'a> Search<'a> {
             if mark == UNSEEN {
                 self.set_mark(antecedent, NEEDED)?;
             } else {
+                // It is redundant, and so in `marked` already.
                 put(self.marks.as_mut_slice(), antecedent, NEEDED);
             }
             self.pending.push(antecedent)?;
@@ -37,6 +40,7 @@ impl<'a> Search<'a> {
     /// the conflict, since propagation runs against the direction of resolution.
     pub(crate) fn gather_hints(&mut self) -> Result<(), AllocError> {
         self.needed.clear();
+        // Each variable is pending once, so there are no more turns than literals on the trail.
         for _ in 0..=self.trail.trail.count() {
             let Some(variable) = self.pending.pop() else {
                 break;

@@ -1,5 +1,7 @@
 //! Recursive minimisation of learned clauses: a literal that the others imply is left out (Sörensson and Biere, "Minimizing learned
 //! clauses", 2009). Shorter clauses propagate sooner, and cost the checker less.
+//!
+//! A literal is given by its code: twice its variable, plus one if it is negative. So `^ 1` negates it, and `>> 1` gives its variable.
 
 use crate::analyze::{NEEDED, REDUNDANT, UNSEEN};
 use crate::search::Search;
@@ -17,7 +19,8 @@ impl<'a> Search<'a> {
         1 << (self.trail.trail.state(variable).level & 31)
     }
 
-    /// Returns the bits of the levels of the learned clause's literals.
+    /// Returns the bits of the levels of the learned clause's literals. Levels that differ by a multiple of 32 share a bit, so
+    /// a bit that is there proves nothing.
     fn levels_of_learned(&self) -> u32 {
         let mut levels: u32 = 0;
         for literal in &self.learned {
@@ -26,8 +29,9 @@ impl<'a> Search<'a> {
         levels
     }
 
-    /// Visits the antecedents of this variable, and puts those that need a further visit on the stack. Returns whether one of them cannot
-    /// be implied by the rest of the clause: a decision, or one of a level that the clause has not.
+    /// Visits the antecedents of this variable, and puts those that need a further visit on the stack. One with a mark is in the clause or implied
+    /// by it, and one of level 0 is false for good. Returns whether one of them cannot be implied by the rest of the clause: a decision, or one of a
+    /// level that the clause has not.
     fn leads_elsewhere(&mut self, variable: u32, levels: u32) -> Result<bool, AllocError> {
         let literal = self.true_literal(variable);
         let reason = self.trail.reason(&self.store, literal);
@@ -71,7 +75,7 @@ impl<'a> Search<'a> {
         Ok(false)
     }
 
-    /// Minimises the learned clause. The reasons that show a literal to be implied become hints.
+    /// Minimises the learned clause, but for its first literal, which it asserts. The reasons that show a literal to be implied become hints.
     pub(crate) fn minimise(&mut self) -> Result<(), AllocError> {
         let levels = self.levels_of_learned();
         let mut kept: u32 = 1;

@@ -27,7 +27,7 @@ pub struct PreparedFormula<'a> {
     pub(crate) small: SmallClauses,
     /// The variables that can be decided.
     pub(crate) wanted: Vec<u32>,
-    /// The variables that are decided first.
+    /// The variables that are decided first: those of the splits, once the formula itself is searched.
     pub(crate) leading: Vec<u32>,
     /// The activities with which the search of the first cube has ended, if it refuted the cube. A search of the formula itself begins with them.
     pub(crate) activities: Option<Activities>,
@@ -124,7 +124,8 @@ impl<'a> PreparedFormula<'a> {
         variables
     }
 
-    /// Returns the id of the unit clause that a cube's literal at this place stands for: after those of the formula, as the checker counts.
+    /// Returns the id of the unit clause that a cube's literal at this place, counted from 0, stands for: after those of the formula, as the checker
+    /// counts. For the number of the cube's literals it is the first free id, which the first step of a derivation has.
     pub(crate) fn id_in_cube(&self, place: usize) -> u32 {
         number_of(self.count.saturating_add(place))
     }

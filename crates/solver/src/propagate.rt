@@ -1,5 +1,7 @@
 //! Unit propagation: small clauses by occurrence lists, longer ones by two watched literals (Moskewicz, Madigan, Zhao, Zhang and
 //! Malik, "Chaff", 2001).
+//!
+//! A literal is given by its code: twice its variable, plus one if it is negative. So `^ 1` negates it, and `>> 1` gives its variable.
 
 use crate::search::Search;
 use assignment_trail::{FALSE, OPEN, OrderedTrail, TRUE};
@@ -21,7 +23,8 @@ enum WatchVisit {
 }
 
 /// Returns the place of the first clause, from this place on, that is unit or in conflict: of its two other literals one is false and the
-/// other is not true. Most of the time of a search is spent here, finding none, so the loop reads nothing but values, and one `|` asks for both.
+/// other is not true. Most of the time of a search is spent here, finding none, so the loop reads nothing but values, and one `|` asks for both:
+/// values are bits, and a clause of two literals has `NEVER` as its second other one, which is false from the start.
 #[inline(always)]
 fn next_touched(others: &[Others], from: u32, values: &[u8]) -> u32 {
     let length = size(others);
@@ -38,7 +41,8 @@ fn next_touched(others: &[Others], from: u32, values: &[u8]) -> u32 {
     length
 }
 
-/// Propagates a falsified literal through the clauses of two and three literals. Returns a conflict, if there is one.
+/// Propagates a falsified literal through the clauses of two and three literals. Returns a conflict, if there is one. The places of `others` begin
+/// at 0 for this literal, those of ids at `start`.
 fn visit_small(
     trail: &mut OrderedTrail<'_>,
     small: &SmallClauses,
@@ -90,7 +94,8 @@ fn count_false(literals: &[u32], values: &[u8]) -> u32 {
     length
 }
 
-/// Visits a clause one of whose watched literals has been falsified: it finds another watch, or is unit, or is a conflict.
+/// Visits a clause one of whose watched literals has been falsified: it finds another watch, or is unit, or is a conflict. `clause` is its offset
+/// in the words, where its header begins with the number of its literals.
 #[inline(always)]
 fn visit_clause(
     trail: &mut OrderedTrail<'_>,
@@ -128,7 +133,8 @@ fn visit_clause(
     WatchVisit::Stays(first)
 }
 
-/// Propagates a falsified literal through the clauses that watch it. Returns a conflict, if there is one, or 0.
+/// Propagates a falsified literal through the clauses that watch it. Returns the offset of a clause in conflict, if there is one, or 0. Watches
+/// that stay are moved up to the front of the list, and one that goes to another literal leaves a gap there.
 fn visit_stored(
     trail: &mut OrderedTrail<'_>,
     store: &mut Store,
@@ -149,6 +155,7 @@ fn visit_stored(
                 WatchVisit::Stays(first) => watch.blocker = first,
                 WatchVisit::Moves(literal) => {
                     let clause = watch.clause;
+                    // The visit has put the other watched literal first.
                     let blocker = at(store.words(), clause.wrapping_add(HEADER), 0);
                     watches.add(literal, Watch { clause, blocker })?;
                     continue;
@@ -165,7 +172,8 @@ fn visit_stored(
 }
 
 /// Propagates all literals of the trail, over this many variables, to a fixed point or to a conflict, which it returns. For each literal the
-/// clauses that cost least come first, those that are sets of bits and then the small ones, since a conflict spares the rest.
+/// clauses that cost least come first, those that are sets of bits and then the small ones, since a conflict spares the rest. Each variable is on
+/// the trail once, so there are no more turns than variables.
 pub fn propagate(
     trail: &mut OrderedTrail<'_>,
     small: &SmallClauses,

@@ -1,4 +1,6 @@
 //! Reduction of the clause database: learned clauses that do not help are dropped from time to time.
+//!
+//! A literal is given by its code: twice its variable, plus one if it is negative. So `^ 1` negates it, and `>> 1` gives its variable.
 
 use crate::search::Search;
 use assignment_trail::TRUE;
@@ -17,7 +19,8 @@ pub const REDUCTION_GROWTH: u32 = 50;
 const TIER1_LBD: u32 = 2;
 
 impl<'a> Search<'a> {
-    /// Records that the clause was used in this conflict, if it is a learned one: age decides between clauses of one LBD.
+    /// Records that the stored clause whose literals begin at this offset was used in this conflict. It is asked of learned ones alone: their age
+    /// is a part of their scores.
     pub(crate) fn note_use(&mut self, place: u32) {
         let clause = place.wrapping_sub(HEADER);
         self.store.set_used(clause, self.conflicts);
@@ -38,7 +41,8 @@ impl<'a> Search<'a> {
         lbd
     }
 
-    /// Returns whether the clause is the reason of its first literal. Such a clause is kept, since later analysis asks for it.
+    /// Returns whether the clause is the reason of its first literal. Such a clause is kept, since later analysis asks for it. Each clause that implies
+    /// a literal has it first. The reason of a literal whose value was undone is still there, so its value is asked too.
     fn is_in_use(&self, clause: u32) -> bool {
         let literal = self.store.literal(clause, 0);
         match self.trail.trail.state(literal >> 1).reason {
@@ -47,8 +51,9 @@ impl<'a> Search<'a> {
         }
     }
 
-    /// Returns the eviction score of each learned clause, LBD first and then age, with its place. The highest are dropped first. (By LBD
-    /// alone the search was two to three times slower.)
+    /// Returns the eviction score of each learned clause that may be dropped, in the upper half of a word, with its offset in the lower. One level
+    /// more of LBD counts as much as 64 conflicts without use. The highest are dropped first. (By LBD alone the search was two to three times
+    /// slower.)
     fn eviction_scores(&self) -> Result<Vec<u64>, AllocError> {
         let mut eviction_scores = Vec::with_capacity(self.alloc, self.clauses.len())?;
         for clause in &self.clauses {
@@ -62,7 +67,8 @@ impl<'a> Search<'a> {
         Ok(eviction_scores)
     }
 
-    /// Redirects reasons, watches and the list of learned clauses after the clauses have moved from the old store.
+    /// Redirects reasons, watches and the list of learned clauses after the clauses have moved from the old store, in which each has its new offset,
+    /// or 0 if it was dropped.
     fn follow_moves(&mut self, old: &Store) {
         self.watches.move_all(old);
         for place in 0..self.trail.trail.count() {

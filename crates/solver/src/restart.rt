@@ -13,6 +13,8 @@ pub const SHORT_UNIT: u64 = 10;
 /// algorithms", 1993).
 fn luby(place: u64) -> u64 {
     let mut place = place;
+    // The first 2^k - 1 terms are the first 2^(k-1) - 1 twice, and then 2^(k-1). `size` is the least such number above the place, and `power` the
+    // last of its terms.
     let mut size: u64 = 1;
     let mut power: u64 = 1;
     for _ in 0..62 {
@@ -23,6 +25,7 @@ fn luby(place: u64) -> u64 {
         power = power.wrapping_mul(2);
     }
     for _ in 0..62 {
+        // Unless the place is that of the last term, it lies in one of the two halves, which are alike.
         if size == 0 || size.wrapping_sub(1) == place {
             break;
         }
@@ -38,8 +41,11 @@ fn luby(place: u64) -> u64 {
 /// Counts conflicts from one restart to the next.
 #[derive(Clone, Copy)]
 pub struct Restarts {
+    /// Conflicts of the shortest interval, which all others are multiples of.
     unit: u64,
+    /// The number of restarts that were due so far.
     done: u64,
+    /// Conflicts up to the next one.
     left: u64,
 }
 

@@ -27,6 +27,7 @@ pub struct ScheduleHeuristic {
     last: Vec<u32>,
     /// The elements so far, as a set of element 0, and the ready ones, as one of element 1.
     sets: ElementSets,
+    /// The number of restarts, which `chance` mixes in.
     restarts: u32,
 }
 
@@ -38,6 +39,7 @@ pub const MAX_STATES: u32 = 1 << 14;
 fn states(trail: &OrderedTrail<'_>) -> u32 {
     let behind = trail.order().successors();
     let mut states: u32 = 1;
+    // One more than the elements of the process at hand. For element 0 the look before the first element finds nothing.
     let mut prefixes: u32 = 1;
     for element in 0..trail.order().elements() {
         if behind.has(element.wrapping_sub(1), element) {
@@ -145,7 +147,7 @@ impl ScheduleHeuristic {
         }
     }
 
-    /// Appends the event to the prefix.
+    /// Appends the event to the prefix. Only what stands after it can become ready.
     fn place(&mut self, trail: &OrderedTrail<'_>, reads_from: &ReadsFromTable, element: u32) {
         self.sets.take_out(READY, element);
         self.sets.insert(PLACED, element);
@@ -180,7 +182,7 @@ impl ScheduleHeuristic {
         choice != 0 && trail.value(choice.wrapping_mul(2)) != FALSE
     }
 
-    /// Returns how many events become ready after this one and may read what it writes.
+    /// Returns how many events are ready after this one and may read what it writes. For the count it is placed and taken out again.
     fn followers(&mut self, trail: &OrderedTrail<'_>, element: u32) -> u32 {
         let mut followers: u32 = 0;
         self.sets.insert(PLACED, element);
@@ -212,7 +214,8 @@ impl ScheduleHeuristic {
         (mixed ^ (mixed >> 15)).wrapping_mul(0x2c1b_3c6d) >> 30
     }
 
-    /// Returns the score of the event as the next one.
+    /// Returns the score of the event as the next one, at least 1. The more elements stand after it, the higher it is; the chance is below 4, so it
+    /// decides between near ones alone.
     fn worth(
         &mut self,
         trail: &OrderedTrail<'_>,
@@ -231,7 +234,7 @@ impl ScheduleHeuristic {
         worth.wrapping_add(followers).wrapping_add(FOLLOWED)
     }
 
-    /// Returns the first other event that can be next.
+    /// Returns the first other event that can be next. A decision needs one: it is a literal that puts the event before this rival.
     fn rival_of(&self, element: u32) -> Option<u32> {
         for number in 0..self.sets.words() {
             let mut ready = self.sets.word(READY, number);
@@ -261,6 +264,7 @@ impl ScheduleHeuristic {
                 let Some(other) = self.rival_of(element) else {
                     break;
                 };
+                // An event that does not fit has the lowest score, but one above none at all.
                 let mut worth = 1;
                 if self.fits(trail, reads_from, element) {
                     worth = self.worth(trail, reads_from, element).wrapping_add(1);

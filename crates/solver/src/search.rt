@@ -1,4 +1,6 @@
 //! The state of a conflict-driven search (CDCL): it decides, propagates, and learns from each conflict.
+//!
+//! A literal is given by its code: twice its variable, plus one if it is negative. So `^ 1` negates it, and `>> 1` gives its variable.
 
 use crate::first_values::FirstValues;
 use crate::prepared_formula::PreparedFormula;
@@ -26,7 +28,7 @@ pub struct Search<'a> {
     pub(crate) small: SmallClauses,
     pub(crate) store: Store,
     pub(crate) watches: Watches,
-    /// The learned clauses in the store.
+    /// The offsets of the learned clauses in the store. A clause that is not among them is never dropped.
     pub(crate) clauses: Vec<u32>,
     /// A conflict that was found and has not been analysed.
     pub(crate) conflict: Option<ReasonClause>,
@@ -48,14 +50,17 @@ pub struct Search<'a> {
     pub(crate) hints: Vec<u32>,
     /// Ids of the resolved clauses, the conflict's first.
     pub(crate) resolved: Vec<u32>,
-    /// Literals that minimisation left out.
+    /// Variables of the literals that minimisation left out.
     pub(crate) removed: Vec<u32>,
-    /// Variables whose reasons are hints: those not visited yet, and the places of the others.
+    /// Variables whose reasons are hints: those not visited yet, and the places of the others on the trail.
     pub(crate) pending: Vec<u32>,
     pub(crate) needed: Vec<u32>,
+    /// Variables that minimisation has yet to visit.
     pub(crate) stack: Vec<u32>,
+    /// For each variable what an analysis knows of it, a mark of `analyze`, and the variables that have one: it is 0 for all others.
     pub(crate) marks: Vec<u8>,
     pub(crate) marked: Vec<u32>,
+    /// For each level the last count of levels that has met it, and the number of that count: so nothing is cleared between two.
     pub(crate) level_stamps: Vec<u32>,
     pub(crate) stamp: u32,
 
@@ -66,6 +71,7 @@ pub struct Search<'a> {
     // When to restart and to drop clauses.
     pub(crate) conflicts: u32,
     pub(crate) restarts: Restarts,
+    /// The number of conflicts at which clauses are dropped next, and the interval that led to it.
     pub(crate) next_reduction: u32,
     pub(crate) reduction_gap: u32,
 }
@@ -122,6 +128,7 @@ impl<'a> Search<'a> {
         {
             search.activities = Activities::after(alloc, ended, prepared.wanted.as_slice())?;
         }
+        // Nothing has a value yet, so any two literals of a clause may be watched. After the assumptions that would not be so.
         search.attach_long()?;
         search.assume_all(prepared, cube);
         if search.conflict.is_none() {
@@ -193,6 +200,7 @@ impl<'a> Search<'a> {
 impl<'a> Search<'a> {
     /// Attaches the longer clauses to the watch lists of their first two literals.
     fn attach_long(&mut self) -> Result<(), AllocError> {
+        // The first clause is at offset 1.
         let mut clause: u32 = 1;
         for _ in 0..self.store.end() {
             if clause >= self.store.end() {
@@ -204,7 +212,7 @@ impl<'a> Search<'a> {
         Ok(())
     }
 
-    /// Assigns the literal at level 0.
+    /// Assigns the literal at level 0. If it is false already, the unit clause is a conflict.
     fn assume(&mut self, unit: Unit) {
         let value = self.trail.value(unit.literal);
         if value == OPEN {
@@ -316,7 +324,8 @@ impl<'a> Search<'a> {
         Ok(None)
     }
 
-    /// Backtracks to level 0 and propagates. Answers whether there is no conflict; one at level 0 is kept.
+    /// Backtracks to level 0 and propagates. Answers whether there is no conflict; one at level 0 is kept. If the search is at level 0 already, what
+    /// was assigned there last is left to the next propagation.
     pub(crate) fn resume_at_root(&mut self) -> Result<bool, AllocError> {
         if self.trail.trail.level() == 0 {
             return Ok(self.conflict.is_none());
@@ -327,7 +336,8 @@ impl<'a> Search<'a> {
     }
 
     /// Returns the level to jump back to: the latest among the other literals of the learned clause, at which the clause is unit. The
-    /// literal of that level goes second, to be watched: it is the first of them to become open again.
+    /// literal of that level goes second, to be watched: it is the first of them to become open again. For a clause of one literal the level is 0, and
+    /// nothing is exchanged.
     fn level_to_resume(&mut self) -> u32 {
         let mut latest: u32 = 1;
         let mut level: u32 = 0;
@@ -346,13 +356,15 @@ impl<'a> Search<'a> {
         level
     }
 
-    /// Backjumps to the level at which the learned clause is unit, and asserts its first literal.
+    /// Backjumps to the level at which the learned clause is unit, and asserts its first literal. The clause is stored with that literal first and a
+    /// literal of that level second, since the first two are watched.
     pub(crate) fn backjump_and_assert(&mut self, id: u32) -> Result<(), AllocError> {
         let lbd = self.lbd_of_learned();
         self.share(id, lbd)?;
         let level = self.level_to_resume();
         self.trail.backtrack(level, &mut self.activities);
         let first = at(self.learned.as_slice(), 0, NEVER);
+        // A unit clause is not stored: its reason has all that is asked of it.
         if self.learned.len() == 1 {
             let reason = Reason::Clause {
                 id,

@@ -8,7 +8,7 @@ use assignment_trail::Activities;
 use proof_log::Attempt;
 use std::alloc::{AllocError, Global};
 
-/// How many searches share what they learn.
+/// How many searches share what they learn. The caller deals them to the leaves of a tree of depth 2, so a fifth would never run.
 const SEATS: u32 = 4;
 
 /// The seat whose first values are drawn.
@@ -59,6 +59,7 @@ impl<'a> PreparedFormula<'a> {
         alloc: Global,
         first: Attempt<Search<'a>>,
     ) -> Result<Vec<Attempt<Search<'a>>>, AllocError> {
+        // The logs of the others are empty. When a round begins, the caller gives each log ids of its own.
         let next = first.log.next_id();
         let mut seats = Vec::with_capacity(alloc, SEATS as usize)?;
         seats.push(first)?;

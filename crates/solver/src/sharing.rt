@@ -1,5 +1,7 @@
 //! What a search gives to others of the same formula, and what it takes in of theirs (Hamadi, Jabbour and Sais, "ManySAT: a parallel SAT
 //! solver", 2009).
+//!
+//! A literal is given by its code: twice its variable, plus one if it is negative. So `^ 1` negates it, and `>> 1` gives its variable.
 
 use crate::search::Search;
 use assignment_trail::{FALSE, OPEN, TRUE};
@@ -24,7 +26,7 @@ impl<'a> Search<'a> {
         }
     }
 
-    /// Keeps the last learned clause, which has this number and this LBD, if it is short.
+    /// Keeps the last learned clause, which has this id and this LBD, if it is short and this search shares what it learns.
     pub(crate) fn share(&mut self, id: u32, lbd: u32) -> Result<(), AllocError> {
         if lbd > MAX_SHARED_LBD || self.learned.len() > MAX_SHARED_LITERALS {
             return Ok(());
@@ -69,6 +71,7 @@ impl<'a> Search<'a> {
             clause.lbd,
             self.conflicts,
         )?;
+        // A clause that is false, or makes a literal true at level 0, need not be watched. It is not among `clauses` either, so it is never dropped.
         match open {
             0 => self.conflict = Some(self.store.reason(place)),
             1 => self.trail.assign(

@@ -90,7 +90,8 @@ impl<'a> Search<'a> {
         Ok((clauses, steps, units.log.next_id()))
     }
 
-    /// Returns a contradiction at level 0, if there is one, and what is known of all readers.
+    /// Returns a contradiction at level 0, if there is one, and what is known of all readers. Nothing must be decided. After a conflict at level 0 it is
+    /// not looked for.
     fn contradiction(&self) -> Result<Option<(MatchingInstance, SourceContradiction)>, AllocError> {
         let Some(reads_from) = self.encoding.reads_from() else {
             return Ok(None);

@@ -70,6 +70,7 @@ fn tell_updates(
     places: &[u32],
     reads: &mut MatchingInstance,
 ) -> Result<(), AllocError> {
+    // No element: choices of one reader stand one after the other, and the first one adds it.
     let mut reader = reads_from.elements();
     for choice in reads_from.choices() {
         let Some(choice) = choice else {
@@ -86,6 +87,7 @@ fn tell_updates(
             };
             reads.add_reader(Reader {
                 update: Some(update),
+                // The clause which says that one of its choices is made stands before those of its first choice.
                 clause: choice.first.wrapping_sub(1),
             })?;
         }
@@ -94,7 +96,7 @@ fn tell_updates(
     Ok(())
 }
 
-/// Adds the final values.
+/// Adds the final values. Last writers of one location have the same clause, and no clause has the id 0.
 fn tell_finals(
     trail: &OrderedTrail<'_>,
     reads_from: &ReadsFromTable,
@@ -128,7 +130,7 @@ pub fn matching_instance(
     Ok(reads)
 }
 
-/// Adds a read-modify-write with its possible sources. Answers whether there is room for all of them.
+/// Adds a read-modify-write with its possible sources. Answers whether there is room for all of them: only the initial value can lack it.
 fn add_update(
     trail: &OrderedTrail<'_>,
     reads_from: &ReadsFromTable,
@@ -191,7 +193,8 @@ fn sources_below(
 /// Returns the same as sets, most of which the trail already has: the readers of `matching_instance`, and their possible sources. There is
 /// no reader if no element reads and writes, since the final values of several locations have no source in common.
 ///
-/// The initial value has a number above those of all elements, and mostly not far above, so sets of fewer words are tried first.
+/// The initial value has a number above those of all elements, and mostly not far above, so sets of fewer words are tried first. No number is twice
+/// that of the elements or more, since each location is named by an element.
 pub fn possible_sources(
     alloc: Global,
     trail: &OrderedTrail<'_>,

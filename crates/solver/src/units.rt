@@ -1,4 +1,6 @@
 //! Unit clauses at level 0, added to the proof on demand: each is a step of the budget, and most literals are never cited.
+//!
+//! A literal is given by its code: twice its variable, plus one if it is negative. So `^ 1` negates it, and `>> 1` gives its variable.
 
 use crate::analyze::{NEEDED, UNSEEN};
 use crate::search::Search;
@@ -62,6 +64,7 @@ impl<'a> Search<'a> {
         self.hints.clear();
         self.set_mark(variable, NEEDED)?;
         self.pending.push(variable)?;
+        // Each variable is pending once, so there are no more turns than literals on the trail.
         for _ in 0..=self.trail.trail.count() {
             let Some(next) = self.pending.pop() else {
                 break;

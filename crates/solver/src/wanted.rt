@@ -1,4 +1,6 @@
 //! Decision variables.
+//!
+//! A literal is given by its code: twice its variable, plus one if it is negative. So `^ 1` negates it, and `>> 1` gives its variable.
 
 use clause_database::{EncodingHints, FormulaLoader, ReadsFromTable, SmallClause, Store};
 use order_sets::next_element;
@@ -55,7 +57,7 @@ fn want_pairs(
     }
 }
 
-/// Marks the reads-from variables, and the order variables in their clauses.
+/// Marks the reads-from variables, and the order variables in their clauses, which are not loaded.
 fn want_reads(
     alloc: Global,
     marks: &mut [u8],

@@ -107,7 +107,8 @@ impl<'a> PreparedFormula<'a> {
         }
     }
 
-    /// Returns the place of the cube among those that are refuted, or one past them. They are at most sixteen, so they are looked through.
+    /// Returns the place of the cube among those that are refuted, or one past them. They are at most sixteen, so they are looked through. A cube is
+    /// found only if its literals come in the same order.
     fn place_of(&self, cube: &[Lit]) -> usize {
         for place in 0..self.refuted_cubes.len() {
             if self.refuted_cubes[place].cube.as_slice() == cube {

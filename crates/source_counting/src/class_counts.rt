@@ -39,6 +39,7 @@ fn last_of(log: &NumberedLog, classes: &ValueClasses, class: ClassId) -> u32 {
 
 /// The number of writers of the class, and 1 if its value is the initial one.
 fn sources_of(log: &NumberedLog, classes: &ValueClasses, class: ClassId) -> u32 {
+    // The runs of a class stand in a row, up to the first run of the next class, and so do its writers.
     let begin = classes.begin(classes.first_run(class));
     let end = classes.begin(classes.first_run(class.next()));
     let initial = log.initial(classes.location(class)) == Some(classes.value(class));

@@ -1,4 +1,7 @@
 //! Counting by a matching of updates and last writes with their possible sources.
+//!
+//! Past the end of a table `at` reads as its last argument, and `put` does nothing; so arithmetic may wrap, and a wrong place makes no fault. Numbers
+//! behind those of all operations stand for locations: as a taker for the last write, and as a source for the initial value.
 
 use crate::class_counts::takes_source;
 use crate::source_takers::{LastInProcess, initial_of, location_of};
@@ -24,9 +27,9 @@ struct SourceAssignment {
     /// For each source its taker, or `NOBODY`.
     taker: Vec<OperationId>,
     /// For each position of a writer one behind which the next free one may stand, found anew as it is asked for, so that a long run of sources
-    /// that are taken is passed in few looks.
+    /// that are taken is passed in few looks. An entry that is its own position has not been passed.
     free: Vec<u32>,
-    /// For each source the turn in which it was seen last, and from which taker.
+    /// For each source the turn in which it was seen last, and from which taker. Turns count from 1, and each taker that is matched has one.
     turns: Vec<u32>,
     from: Vec<OperationId>,
     turn: u32,
@@ -52,7 +55,8 @@ impl Drop for SourceAssignment {
     }
 }
 
-/// Looks for updates and last writes that have too few possible sources, within a share of the order's budget.
+/// Looks for updates and last writes that have too few possible sources, within a share of the order's budget. If the share is spent, the takers that were
+/// not matched are taken to have sources.
 pub fn count_sources(
     alloc: Global,
     order: &mut Propagation<'_>,
@@ -100,12 +104,14 @@ impl SourceAssignment {
         })
     }
 
+    /// The result that the takers which were seen in this turn have too few sources together: each of these has its taker among them, and the first taker
+    /// has none.
     fn too_few(&self, alloc: Global) -> Result<Counted, AllocError> {
         Ok(Counted::TooFew(Vec::from_slice(alloc, self.seen.as_slice())?))
     }
 
     /// Finds a source for the taker, if need be by a way along which others change theirs. If there is none, the takers that were seen have too
-    /// few.
+    /// few. The search goes breadth first over `seen`, in which takers join behind.
     fn match_taker(
         &mut self,
         order: &Propagation<'_>,
@@ -135,6 +141,7 @@ impl SourceAssignment {
         let mut source = found;
         for _ in 0..size(self.taken.as_slice()) {
             let taker = at(self.from.as_slice(), source.number(), NOBODY);
+            // What this taker had goes to the one from which it was seen, so it is read before it changes.
             let next = at(self.taken.as_slice(), taker.number(), NOBODY);
             put(self.taken.as_mut_slice(), taker.number(), source);
             put(self.taker.as_mut_slice(), source.number(), taker);
@@ -161,6 +168,7 @@ impl SourceAssignment {
                 return Ok(found);
             }
         }
+        // A free source of any run ends the search, so these come first. If there is none, all sources are seen with their takers.
         for run in 0..order.sources().intervals(taker) {
             let low = order.sources().low(taker, run);
             let high = order.sources().high(taker, run);

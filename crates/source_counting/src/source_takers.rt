@@ -1,4 +1,6 @@
 //! What takes a source for itself.
+//!
+//! Past the end of a table `at` reads as its last argument, and `put` does nothing; so arithmetic may wrap, and a wrong place makes no fault.
 
 use numbered_log::{LocationId, NOBODY, NumberedLog, OperationId, ProcessId};
 use order_propagation::Propagation;
@@ -11,6 +13,7 @@ use total_tables::{at, put, sum_up};
 pub(crate) struct LastInProcess {
     /// For each location where its writers begin, and where all end.
     begins: Vec<u32>,
+    /// By location, and at one location by rising numbers.
     writers: Vec<OperationId>,
 }
 
@@ -33,6 +36,8 @@ impl LastInProcess {
         };
         for number in log.operation_ids() {
             if at(is_last.as_slice(), number.number(), false) {
+                // After the sums the entry behind a location is where its writers begin. Placing them moves it to their end, where those of the next
+                // location begin.
                 let place = log.operation(number).location.number().wrapping_add(2);
                 let more = at(last.begins.as_slice(), place, 0).wrapping_add(1);
                 put(last.begins.as_mut_slice(), place, more);
@@ -65,7 +70,8 @@ impl LastInProcess {
     }
 }
 
-/// For each operation whether it is the last of its process that writes its location.
+/// For each operation whether it is the last of its process that writes its location. Operations of a process have numbers that follow each other, so it is
+/// enough to keep for each location the process that was met last.
 fn last_in_process(alloc: Global, log: &NumberedLog) -> Result<Vec<bool>, AllocError> {
     let mut is_last = vec![in alloc; false; log.count() as usize]?;
     let mut seen = vec![in alloc; ProcessId::NONE; log.locations() as usize]?;

@@ -70,7 +70,8 @@ fn add_excluded(
     Ok(())
 }
 
-/// Adds the last writer as one more reader, after all others. Its choices have no variables yet.
+/// Adds the last writer as one more reader, after all others. Its choices have no variables yet. `counting_proofs` makes these readers once more, with
+/// variables, and names the choices by the numbers that they have here: so both have them in the order of the candidates.
 fn with_last_reader(
     alloc: Global,
     reads: &MatchingInstance,

@@ -17,6 +17,7 @@ pub struct GreedyMatching<'a> {
     known: KnownOrder<'a>,
     /// For each update the writers that it may have as its source.
     sources: &'a ElementSets,
+    /// All updates that were added.
     updates: Vec<u64>,
     /// The updates that may read the initial value, while none of their location is matched with it.
     with_first: Vec<u64>,
@@ -90,7 +91,7 @@ impl<'a> GreedyMatching<'a> {
         self.updates.iter().any(|word| *word != 0)
     }
 
-    /// Starts a location: exactly one of the writers added next is its last writer.
+    /// Starts a location, that of this writer, which may be any of its writers. Callers add its ends next, by `add_end`.
     pub fn add_location(&mut self, writer: u32) -> Result<(), AllocError> {
         for number in 0..self.known.writers.words() {
             let word = at(self.seen.as_slice(), number, 0);
@@ -146,6 +147,7 @@ impl<'a> GreedyMatching<'a> {
     fn has_no_cycle(&self, alloc: Global) -> Result<bool, AllocError> {
         let mut inside = Vec::new(alloc);
         inside.extend_from_slice(self.updates.as_slice())?;
+        // Each round but the last takes an update out, so these rounds are enough.
         for _ in 0..=self.known.order.operations {
             let mut is_changed = false;
             let mut all: u64 = 0;
@@ -171,7 +173,8 @@ impl<'a> GreedyMatching<'a> {
         Ok(false)
     }
 
-    /// Matches the update with the initial value, if it may read that and none of its location does.
+    /// Matches the update with the initial value, if it may read that and none of its location does. Then no other update of the location may. It has
+    /// no entry in `takers`, so this match is never undone.
     #[inline(always)]
     fn takes_first(&mut self, update: u32) -> bool {
         let is_there = is_member(self.with_first.as_slice(), update);
@@ -200,7 +203,8 @@ impl<'a> GreedyMatching<'a> {
             )
     }
 
-    /// Frees one of these sources along an alternating path, if the update that is matched with it can be matched with another one.
+    /// Frees one of these sources along an alternating path, if the update that is matched with it can be matched with another one. A source that
+    /// is freed stays out of the sets of free ones, so the caller takes it.
     fn given_back(&mut self, sources: u64, number: u32) -> Option<u32> {
         let mut word = sources;
         for _ in 0..64 {
@@ -275,7 +279,8 @@ impl<'a> GreedyMatching<'a> {
         true
     }
 
-    /// Returns whether the greedy matching saturates all readers. False means unknown, not infeasible.
+    /// Returns whether the greedy matching saturates all readers. False means unknown, not infeasible. Matching takes elements out of `ends` and
+    /// `with_first`, so the copy of the one is made and the cycle is looked for, which asks the other, before it.
     pub fn shows_enough(&mut self, alloc: Global) -> Result<bool, AllocError> {
         self.add_locations()?;
         let mut may_end = Vec::new(alloc);

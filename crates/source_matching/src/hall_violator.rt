@@ -10,7 +10,8 @@ use total_tables::{at, put, size};
 pub struct HallViolator {
     readers: Vec<u32>,
     sources: u32,
-    /// For each reader and source the number of the choice, plus one, or 0.
+    /// For each reader and source the number of the choice in the instance from which the violator was made, plus one, or 0. There are fewer
+    /// sources than readers, so it has a column for each reader, and one for the source 0, which is none.
     choices: Grid<u32>,
 }
 
@@ -47,7 +48,8 @@ impl HallViolator {
         Ok(shortage)
     }
 
-    /// Adds the choices of the reader that are not excluded. A source that is new has the next number.
+    /// Adds the choices of the reader that are not excluded. A source that is new has the next number; `places` has the number of each that is known,
+    /// or 0.
     fn take_choices(&mut self, reads: &MatchingInstance, reader: u32, places: &mut [u32]) {
         let number = self.reader(reader);
         for choice in reads.first_choice(number)..reads.first_choice(number.wrapping_add(1)) {

@@ -18,7 +18,7 @@ pub enum Infeasibility {
     LastWriters(LastWriters, Vec<u32>),
 }
 
-/// Looks for a Hall violator with the last writer of a location among its readers.
+/// Looks for a Hall violator with the last writer of a location among its readers. That one has the number after those of all readers.
 fn find_ending(
     alloc: Global,
     known: KnownOrder<'_>,
@@ -28,7 +28,7 @@ fn find_ending(
     for writer in &writers {
         let candidates = candidates_of(alloc, known, *writer)?;
         let sources = matching.possible().sources();
-        // One that no reader may have as its source is free to be the last writer.
+        // One that no reader may have as its source is free to be the last writer. The sets have no bit for it, so the matching would not see it.
         let may_be_read = candidates.iter().all(|candidate| *candidate < sources);
         if may_be_read && matching.has_none_for(candidates.as_slice())? {
             let mut readers = Vec::new(alloc);

@@ -84,7 +84,8 @@ impl LastWriters {
         })
     }
 
-    /// Returns a bound on the steps which say that one of the candidates is the last one.
+    /// Returns a bound on the steps which say that one of the candidates is the last one: for each candidate a definition with a clause for each
+    /// writer, one clause with a deletion, and the steps that eliminate it from the clauses of the others.
     pub fn most_steps(&self) -> u64 {
         let writers = self.writers.len() as u64;
         let candidates = self.candidates.len() as u64;
@@ -113,7 +114,7 @@ impl LastWriters {
         found
     }
 
-    /// Returns the choice of the writer at this place among the candidates, with this variable, if its clauses begin with this one.
+    /// Returns the choice of the writer at this place among the candidates, counted from 0, with this variable, if its clauses begin with this one.
     pub fn choice(&self, candidate: u32, variable: u32, first: u32) -> ReadsFromEdge {
         let source = at(self.candidates.as_slice(), candidate, u32::MAX);
         let mut place: u32 = 0;
@@ -133,7 +134,7 @@ impl LastWriters {
 }
 
 /// Returns whether a free source may be the last writer of this one's location. (Of those in a word only the last one is examined, which is the
-/// likeliest.)
+/// likeliest. If one is missed, `find_ending` searches in full.)
 fn has_free_end(known: KnownOrder<'_>, free: &[u64], writer: u32) -> bool {
     for number in 0..known.writers.words() {
         let word = known.writers.word(writer, number) & at(free, number, 0);

@@ -14,13 +14,13 @@ pub struct Matching {
     source_of: Vec<u32>,
     /// For each source its reader, plus one, or 0.
     reader_of: Vec<u32>,
-    /// The free sources.
+    /// The free sources. All bits are set at first, so one that no reader may have counts as free too.
     free: Vec<u64>,
     /// The sources that the search at hand has not visited.
     unseen: Vec<u64>,
-    /// For each visited source the reader from which the search came.
+    /// For each visited source the reader from which the search came. An entry counts only for sources that the last search has visited.
     came_from: Vec<u32>,
-    /// The visited readers.
+    /// The visited readers, in the order in which the search goes on from them.
     reached: Vec<u32>,
     /// The unmatched readers.
     left_over: Vec<u32>,
@@ -67,6 +67,7 @@ impl Matching {
             }
         }
         for reader in &waiting {
+            // A reader without an augmenting path has none after the matching was enlarged either, so each is tried once.
             match matching.walk(*reader)? {
                 Some(source) => matching.enlarge(source),
                 None => matching.left_over.push(*reader)?,
@@ -95,14 +96,16 @@ impl Matching {
         Ok(smallest)
     }
 
-    /// Returns whether one more reader with these sources would remain unmatched.
+    /// Returns whether one more reader with these sources would remain unmatched. The matching stays as it is, so this may be asked for one set of
+    /// sources after the other.
     pub fn has_none_for(&mut self, sources: &[u32]) -> Result<bool, AllocError> {
         self.possible.set_last(sources);
         let found = self.walk(self.readers)?;
         Ok(found.is_none())
     }
 
-    /// Returns the readers that the last search has visited: with no augmenting path they are a Hall violator.
+    /// Returns the readers that the last search has visited: with no augmenting path they are a Hall violator. The one more
+    /// reader of `has_none_for` is the first of them.
     pub fn reached(&self) -> &[u32] {
         self.reached.as_slice()
     }
@@ -163,6 +166,7 @@ impl Matching {
 
     /// Searches for an augmenting path from this reader: to its possible sources, from a source to its reader, and so on. It ends at a free
     /// source, or after all that can be reached was visited.
+    /// The reader whose number is that of all readers is the one more, of `SourceSets::set_last`; so a search visits at most one more than there are.
     fn walk(&mut self, reader: u32) -> Result<Option<u32>, AllocError> {
         for number in 0..self.possible.words() {
             put(self.unseen.as_mut_slice(), number, u64::MAX);
@@ -181,7 +185,8 @@ impl Matching {
         Ok(None)
     }
 
-    /// Flips the alternating path that ends at this source, which matches one more reader.
+    /// Flips the alternating path that ends at this source, which matches one more reader. It goes back from the source to the reader where the search
+    /// began: each reader gives up the source that it had, and the one from which the search came to that source takes it.
     fn enlarge(&mut self, source: u32) {
         let word = at(self.free.as_slice(), source >> 6, 0);
         let bit = 1 << (source & 63);

@@ -45,7 +45,8 @@ impl ReadsFromEdge {
         self.variable.wrapping_mul(2)
     }
 
-    /// Returns the number of its clause that forbids this writer to come between, if it is an edge of this reader.
+    /// Returns the number of its clause that forbids this writer, by its place, to come between, if it is an edge of this reader. The
+    /// reader and the source have no such clause, so each of them with a smaller place than the writer takes one off the number.
     fn clause_against(self, reader: Reader, writer: u32) -> u32 {
         let mut number = self.first.wrapping_add(writer);
         if let Some(update) = reader.update {
@@ -70,7 +71,7 @@ impl ReadsFromEdge {
 pub struct MatchingInstance {
     readers: Vec<Reader>,
     choices: Vec<ReadsFromEdge>,
-    /// The place where the choices of each reader begin.
+    /// For each reader the number of its first choice.
     begins: Vec<u32>,
     sources: u32,
 }
@@ -127,7 +128,7 @@ impl MatchingInstance {
         size(self.readers.as_slice())
     }
 
-    /// Returns the number after that of the last source.
+    /// Returns the number after that of the last source. It is a bound for tables; not each number below it is a source.
     pub fn sources(&self) -> u32 {
         self.sources
     }
@@ -150,7 +151,7 @@ impl MatchingInstance {
         )
     }
 
-    /// Returns the choice of this number.
+    /// Returns the choice of this number, counted from 0 through those of all readers. Past the end it is an excluded one.
     pub fn choice(&self, number: u32) -> ReadsFromEdge {
         let nothing = ReadsFromEdge {
             source: u32::MAX,

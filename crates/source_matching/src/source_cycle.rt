@@ -62,7 +62,7 @@ pub fn set_member(set: &mut [u64], source: u32, is_member: bool) {
 }
 
 /// Removes, one after the other, each update that may have a source outside of those that are left. Returns those that are left at the end,
-/// as a set of sources, and how many they are. Each round looks at all of them, without a worklist: they are at most a few hundred.
+/// as a set of the numbers of their operations, and how many they are. Each round looks at all of them, without a worklist: they are at most a few hundred.
 fn without_outsiders(alloc: Global, possible: &SourceSets) -> Result<(Vec<u64>, u32), AllocError> {
     let mut left = vec![in alloc; 0; possible.words() as usize]?;
     let mut count: u32 = 0;
@@ -112,6 +112,7 @@ fn reached_from(
                 let Some(source) = next_element(&mut word, number) else {
                     break;
                 };
+                // A source that is no update would give the largest number, which counts as reached.
                 let other = at(by_source, source, 0).wrapping_sub(1);
                 if at(is_reached.as_slice(), other, 1) == 0 {
                     put(is_reached.as_mut_slice(), other, 1);

@@ -11,6 +11,7 @@ pub struct SourceSets {
     words: u32,
     /// For each reader the number of its operation, plus one, if it is an update, or 0.
     updates: Vec<u32>,
+    /// The sets one after the other, each of as many words; the last one is that of the one more reader.
     bits: Vec<u64>,
 }
 
@@ -85,7 +86,8 @@ impl SourceSets {
         }
     }
 
-    /// Sets the sources of the one more reader, in place, so that the last writers of each location are tried without a copy.
+    /// Sets the sources of the one more reader, in place, so that the last writers of each location are tried without a copy. It stands
+    /// behind the readers that were added, so none may be added after this. Sources above the bound are left out.
     pub fn set_last(&mut self, sources: &[u32]) {
         let last = self.readers();
         for number in 0..self.words {
@@ -114,7 +116,7 @@ impl SourceSets {
         }
     }
 
-    /// Returns a bound above the numbers of all sources.
+    /// Returns a bound above the numbers of all sources: that of the bits of a set, and mostly more than the number of sources.
     pub fn sources(&self) -> u32 {
         self.words.wrapping_mul(64)
     }
@@ -125,7 +127,7 @@ impl SourceSets {
         self.words
     }
 
-    /// Returns a word of the reader's set.
+    /// Returns a word of the reader's set. Its number is below that of the words of a set: a larger one would read the next reader's.
     #[inline(always)]
     pub fn word(&self, reader: u32, number: u32) -> u64 {
         let place = reader.wrapping_mul(self.words).wrapping_add(number);

@@ -5,7 +5,7 @@ ghost use Rattle.stop_word.specs.WordRule.{Keeps, Looks, Marks, view_of, nothing
 use crate::views::View;
 use atomic_table::{Join, Play, Split, TableRule};
 
-/// The word rule. The first seat has all parts.
+/// The word rule. The first seat has all eight parts, `MAX_SEATS`: a seat that has all of them again knows all marks.
 pub struct LeastMark;
 
 impl TableRule<u8, View, ()> for LeastMark {

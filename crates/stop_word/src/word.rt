@@ -32,7 +32,7 @@ impl Model for StopWord {
     ghost invariant = { λ w. (w.table.shared.table_id.words ≡ 1) × (w.table.shared.table_id.slots ≡ 0) };
 }
 
-/// The number that the word is, if it is not nothing.
+/// The number that the word is, if it is not nothing: the largest number of 64 bits, which no mark is, since marks have 32.
 fn number_in(word: u64) -> Option<u32>
     requires { (word ≡ nothing) ⊎ (word < 2 ^ 32) }
     ensures { or_nothing result ≡ word }
@@ -57,6 +57,7 @@ impl StopWord {
         let (table, seat) = Table::of_words(alloc, &[u64::MAX], &())?;
         let word = StopWord { table };
         let mut first = StopSeat { seat };
+        // The first seat keeps the parts that are not cut off, so all seats together have eight, however few they are.
         for _ in 1..seats {
             list.push(word.cut(&mut first))?;
         }
@@ -96,6 +97,7 @@ impl StopWord {
         ensures word { seat.new.word ≡ seat.old.word }
         ensures marked { Marks seat.old.knows k seat.new.knows }
     {
+        // The table has one word, at place 0. What was there before is of no use to the caller.
         let _found = self
             .table
             .shared
@@ -132,7 +134,7 @@ impl StopWord {
         self.close_with(whole)
     }
 
-    /// The least of this seat's marks, where it has all parts.
+    /// The least of this seat's marks, where it has all parts. With fewer, marks of other seats could be in the word too.
     fn close_with(self, seat: StopSeat) -> Option<u32>
         requires word { seat.word ≡ self }
         requires parts { seat.knows.parts ≡ 8 }

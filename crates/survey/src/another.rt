@@ -1,4 +1,6 @@
 //! Another contradiction of the same trace, whose core may be smaller.
+//!
+//! All numbers of steps here are looks at entries of tables, as a `Budget` counts them.
 
 use crate::contradiction::contradicting;
 use crate::given_order::GivenOrder;
@@ -28,7 +30,7 @@ const LARGE: u32 = 40;
 const LEAST_FOR_LARGE: u64 = 60_000_000;
 
 /// The steps that the search for others may take: about as many as found the core, or some. A large core is worth more of them, since its
-/// part may be too large to be refuted.
+/// part may be too large to be refuted. `spent` is what the survey took to find the first core.
 fn steps_for_another(core: &Core<'_>, spent: u64) -> u64 {
     if core.count() > LARGE {
         spent.max(LEAST_FOR_LARGE)

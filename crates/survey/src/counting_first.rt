@@ -42,6 +42,7 @@ struct ValueCounts<'a> {
 #[derive(Drop)]
 pub(crate) struct CountedReasons {
     text: Vec<u8>,
+    /// Then it is given alone, and no core is looked for.
     pub(crate) are_many: bool,
 }
 
@@ -51,6 +52,7 @@ impl<'a> ValueCounts<'a> {
         if let Some(number) = self.locations.get(location) {
             return Ok(number);
         }
+        // A location without a number has no count yet either, and gets one right after this: so no other has this number.
         let number = self.counts.len() as u64;
         self.locations.insert(location, number)?;
         Ok(number)
@@ -94,7 +96,7 @@ impl<'a> ValueCounts<'a> {
         Ok(())
     }
 
-    /// Counts what the operation wants and leaves.
+    /// Counts what the operation wants and leaves. Plain reads take no source away, so they are not counted.
     fn add_operation(&mut self, op: &'a Op) -> Result<(), AllocError> {
         let Some(left) = op.written_value() else {
             return Ok(());
@@ -108,6 +110,7 @@ impl<'a> ValueCounts<'a> {
 
     /// Counts the initial values, and those final ones whose location is written.
     fn add_ends(&mut self, trace: &'a Trace) -> Result<(), AllocError> {
+        // Before the initial values, since these give their location a number too, and it would look as if it were written.
         for entry in trace.final_values() {
             if self.locations.get(entry.0.as_bytes()).is_some() {
                 self.add_wanting(&entry.0, entry.1)?;

@@ -34,7 +34,7 @@ struct NamedFinding {
     is_shown: bool,
 }
 
-/// Two findings, in the order in which they are asked.
+/// Two findings, in the order in which they are asked. The caller judges the second only if the first shows nothing.
 #[derive(Drop)]
 struct OrderedFindings {
     finding: Finding,
@@ -72,7 +72,8 @@ fn looks_of_step(log: &NumberedLog) -> u64 {
     LOOKS.saturating_add(entries / ENTRIES_OF_LOOK)
 }
 
-/// The steps that these looks are, of which each step has this number.
+/// The steps that these looks are, of which each step has this number. Looks that make no whole step are left out, so what is left never counts for more
+/// than it is.
 fn steps_of(looks: u64, of_each: u64) -> u64 {
     if of_each == 0 {
         return 0;
@@ -80,7 +81,7 @@ fn steps_of(looks: u64, of_each: u64) -> u64 {
     looks / of_each
 }
 
-/// The most operations of a part that is decided by its formula.
+/// The most operations of a part that is decided by its formula. A larger core is not counted as shown, and a certificate of reasons goes before it.
 const MAX_OF_FORMULA: u32 = 160;
 
 /// The progress of a survey that has taken no step.
@@ -93,6 +94,7 @@ const NO_EXTENT: Extent = Extent {
 /// The survey that counts, saturates an order and walks from the front, until it has found something or its budget of steps is spent.
 #[derive(Clone, Copy)]
 pub struct BySaturation {
+    /// The most steps that it takes. A step is several looks, by `looks_of_step`.
     pub budget: u64,
 }
 
@@ -138,6 +140,7 @@ impl BySaturation {
         let mut budget = Budget::new(purse.left().saturating_mul(looks));
         let walked = walk_over(alloc, &log, hint.as_slice(), &mut budget)?;
         purse.settle(steps_of(budget.left(), looks));
+        // In looks again, as what the search for other cores may take.
         let spent = purse.taken().saturating_mul(looks);
         let mut budget = Budget::new(purse.left().saturating_mul(looks));
         let Walked {
@@ -236,6 +239,7 @@ fn walk_over(
     let kept = budget.share(budget.left() / 4);
     let reduced = ReducedLog::of(alloc, log)?;
     let hint = reduced.kept_of(alloc, log, hint)?;
+    // The order has a copy of the budget. What is left of it is read back whenever work of the order has ended.
     let mut order = Propagation::new(alloc, &reduced.log, *budget)?;
     let mut search = ScheduleSearch::new(alloc);
     let ending = search.run(alloc, &mut order, hint.as_slice())?;
@@ -313,7 +317,8 @@ fn smallest_core_of<'a>(
     })
 }
 
-/// Makes the core smaller, after it was completed so that saturation or a walk refutes it. Returns whether one does.
+/// Makes the core smaller, after it was completed so that saturation or a walk refutes it. Returns whether one does. If the pairs of the log are cyclic,
+/// the core only gets the writers that keep its reads, and counts as refuted.
 fn make_smallest<'a>(
     alloc: Global,
     forced: &'a GivenOrder<'a>,

@@ -1,6 +1,8 @@
 //! The order that program order and the pairs of a log force, before anything else is derived.
 //!
 //! By it a part of the log keeps a read: each source that this order leaves possible must be in the part.
+//!
+//! Past the end of a table `at` reads as its last argument, and `put` does nothing; so arithmetic may wrap, and a wrong place makes no fault.
 
 use closed_rows::{ClosedRows, OrderedPairs, PairReason, Sweeps, close_rows};
 use numbered_log::{Budget, LocationId, NOBODY, NumberedLog, OperationId, ProcessId, ProcessPlace};
@@ -15,6 +17,7 @@ pub struct GivenOrder<'a> {
     sources: SourceIntervals,
     writers: HidingAccesses,
     rows: ClosedRows,
+    /// Whether the pairs of the log are cyclic. Then the rows are of no use, and the sources are those of program order.
     is_cyclic: bool,
 }
 
@@ -120,7 +123,8 @@ impl<'a> GivenOrder<'a> {
         Ok(())
     }
 
-    /// The first position of a run, from one up to another, whose writer is not hidden from the reader.
+    /// The first position of a run, from one up to another, whose writer is not hidden from the reader. What hides a writer hides those before it in its
+    /// process, so halving finds it; 32 times are enough for each position.
     fn first_visible(&self, reader: OperationId, begin: u32, end: u32) -> u32 {
         let mut low = begin;
         let mut high = end;
@@ -138,7 +142,7 @@ impl<'a> GivenOrder<'a> {
         low
     }
 
-    /// The first position of a run, from one up to another, whose writer stands after the reader.
+    /// The first position of a run, from one up to another, whose writer stands after the reader. Those behind it stand after the reader too.
     fn first_late(&self, reader: OperationId, begin: u32, end: u32) -> u32 {
         let mut low = begin;
         let mut high = end;
@@ -165,6 +169,7 @@ impl<'a> GivenOrder<'a> {
             if low < self.sources.high(reader, run)
                 && self.later_writer(location, writer).is_some()
             {
+                // An interval of a final value has one writer, the last of its process, so this empties it.
                 let end = low.wrapping_add(1);
                 self.sources.hide_before(reader, run, end, BY_THE_ORDER)?;
             }
@@ -209,7 +214,7 @@ impl<'a> GivenOrder<'a> {
         self.rows.stands_before(self.log, first, second)
     }
 
-    /// The place of the process's first operation that stands after this one.
+    /// The place of the process's first operation that stands after this one. If there is none, it is the place behind its last one.
     #[inline(always)]
     pub fn after(&self, number: OperationId, process: ProcessId) -> ProcessPlace {
         self.rows.after(number, process)

@@ -1,4 +1,6 @@
 //! A log without the reads that repeat what their process has just seen: they can follow it at once in each schedule, and say nothing new.
+//!
+//! Past the end of a table `at` reads as its last argument, and `put` does nothing; so arithmetic may wrap, and a wrong place makes no fault.
 
 use numbered_log::{
     NOBODY, NumberedLog, NumberedOrigin, NumberedPair, Operation, OperationId, ProcessPlace,
@@ -32,7 +34,7 @@ fn value_seen(operation: Operation) -> u64 {
     }
 }
 
-/// For each operation whether an origin or a pair names it.
+/// For each operation whether an origin or a pair names it. These are kept, so that the numbers in origins and pairs have new ones.
 fn named(alloc: Global, log: &NumberedLog) -> Result<Vec<bool>, AllocError> {
     let mut is_named = vec![in alloc; false; log.count() as usize]?;
     for number in log.operation_ids() {
@@ -160,6 +162,7 @@ impl ReducedLog {
                 OperationId::FIRST,
             );
             let process = log.operation(number).process;
+            // The reads that were left out stand between this operation and the next one that was kept, or the end of the process.
             let mut end = log.start(process.next());
             let kept = self.log.operation(*operation);
             if kept.place < self.log.last_place(kept.process) {

@@ -1,6 +1,8 @@
 //! What is left of a log on some of its operations.
 //!
 //! If this is not the part that is made of the trace, the answer is of no use, and nothing worse.
+//!
+//! Past the end of a table `at` reads as its last argument, and `put` does nothing; so arithmetic may wrap, and a wrong place makes no fault.
 
 use crate::given_order::GivenOrder;
 use numbered_log::{
@@ -89,7 +91,9 @@ impl Drop for LogPart {
 
 /// The numbers in the part, by those in the whole.
 struct Renaming {
+    /// `NOBODY` for those that the part does not have.
     operations: Vec<OperationId>,
+    /// `LocationId::NONE` for those on which the part has no operation.
     locations: Vec<LocationId>,
     /// The other way round, for locations.
     old_locations: Vec<LocationId>,
@@ -244,7 +248,7 @@ impl LogPart {
         }
     }
 
-    /// Adds what is left of the operations.
+    /// Adds what is left of the operations. Processes without any of them are left out, so those of the part have other numbers.
     fn add_operations(
         &mut self,
         order: &GivenOrder<'_>,
@@ -297,7 +301,8 @@ impl LogPart {
         }
     }
 
-    /// Adds pairs of the nearest operations that are left.
+    /// Adds pairs of the nearest operations that are left. What stands before an operation in another process, by the given order, does so up to a place:
+    /// the pair is from the last operation up to there that the part has.
     fn add_pairs(
         &mut self,
         alloc: Global,
@@ -339,6 +344,7 @@ impl LogPart {
             let place = order.before(old, process);
             if place != ProcessPlace::START && log.operation(old).process != process {
                 let first = at(nearest, log.number(process, place).number(), NOBODY);
+                // A pair to the same first operation, or an earlier one, follows from the pair before.
                 if first != NOBODY && (last == NOBODY || first > last) {
                     self.log.add_pair(NumberedPair {
                         first,

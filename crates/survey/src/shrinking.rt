@@ -1,4 +1,7 @@
 //! Smaller cores.
+//!
+//! A budget counts looks at entries of tables here. Operations, locations and processes have the numbers of the whole log; what is refuted is always the
+//! part of the core.
 
 use crate::contradiction::{contradicting, is_refuted};
 use crate::given_order::GivenOrder;
@@ -16,12 +19,13 @@ pub struct Core<'a> {
     /// The order that program order and pairs force on the whole.
     forced: &'a GivenOrder<'a>,
     operations: Vec<OperationId>,
+    /// The same set as a table, which must change together with the list.
     chosen: Chosen,
     /// Whether a part that saturation does not refute is walked over.
     walks: bool,
 }
 
-/// The largest number of steps that a walk over a part may take. With more, one part takes the budget of all others.
+/// The largest number of steps that a walk over a part may take. With more, one part takes the budget of all others. In looks, as each budget here.
 const WALK: u64 = 4_000_000;
 
 impl<'a> Core<'a> {
@@ -52,7 +56,7 @@ impl<'a> Core<'a> {
         size(self.operations.as_slice())
     }
 
-    /// Returns whether saturation finds a contradiction in the part.
+    /// Returns whether saturation finds a contradiction in the part. If `walks` is set, a walk over it decides instead.
     pub fn is_refuted(&self, budget: &mut Budget) -> Result<bool, AllocError> {
         let part = part_of(
             self.alloc,
@@ -81,7 +85,8 @@ impl<'a> Core<'a> {
         self.walks = true;
     }
 
-    /// Adds writers by which writers of the core are hidden from readers of the core: without them these would be sources in the part.
+    /// Adds writers by which writers of the core are hidden from readers of the core: without them these would be sources in the part. A writer that joins
+    /// may be a source of a reader, and need another one that hides it: so this is done again until none joins.
     pub fn close(&mut self, budget: &mut Budget) -> Result<(), AllocError> {
         for _ in 0..self.forced.log().count() {
             let before = self.count();
@@ -230,7 +235,8 @@ impl<'a> Core<'a> {
         }
     }
 
-    /// Returns whether a writer of the location in the process, from one place up to another, is chosen.
+    /// Returns whether a writer of the location in the process, from one place up to another, is chosen. Both places are among these; the one behind the
+    /// end of a process has no writer.
     fn has_chosen_writer(
         &self,
         process: ProcessId,
@@ -353,6 +359,7 @@ impl<'a> Core<'a> {
         operations: &[OperationId],
         budget: &mut Budget,
     ) -> Result<(), AllocError> {
+        // Some may have been left out since the list was made, when the core was refined.
         let group = self.chosen.among(self.alloc, operations)?;
         if group.is_empty() || budget.is_spent() {
             return Ok(());

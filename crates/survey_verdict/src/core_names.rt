@@ -22,6 +22,7 @@ fn push_names(alloc: Global, names: &mut Vec<OpName>, process: &Process) -> Resu
         let name = Name::copy_of(alloc, process.name.as_bytes())?;
         names.push(OpName {
             process: name,
+            // Places in a process count from 1.
             place: (k + 1) as u32,
         })?;
     }

@@ -54,7 +54,7 @@ fn judged(alloc: Global, trace: &Trace, names: Vec<OpName>) -> Result<Option<Sch
     }
 }
 
-/// The trace without its repeated local reads, if few enough operations are left.
+/// The trace without its repeated local reads, if at most 160 operations are left, which is what a search takes.
 fn reduced_if_small(alloc: Global, trace: &Trace) -> Result<Option<Reduced>, AllocError>
     ensures { IfOk result (IsReducedIfSmall trace.now) }
 {
@@ -132,6 +132,7 @@ fn part_in_order(alloc: Global, trace: &Trace, names: &[OpName]) -> Result<Trace
     match part_of(alloc, trace, names) {
         Ok(part) => Ok(part),
         Err(PlacedFault::OutOfMemory) => Err(AllocError),
+        // Only a name that the trace does not have, or that came before, is refused, and these are in its order.
         Err(PlacedFault::At(_cause, _place)) => unreachable!(),
     }
 }
@@ -255,7 +256,7 @@ fn accepted_clauses(alloc: Global, trace: &Trace, text: &[u8]) -> Result<Option<
     }
 }
 
-/// The names, or none if they are many.
+/// The names, or none if they are more than `MAX_NAMED`. The contract says 64 as `if_few`.
 fn few_names(alloc: Global, names: Vec<OpName>) -> Vec<OpName>
     ensures { result.items ≡ if_few names.items }
 {

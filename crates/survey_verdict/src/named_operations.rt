@@ -43,7 +43,7 @@ fn is_silent(line: &[u8]) -> bool
     }
 }
 
-/// Returns whether a derivation comes behind the line.
+/// Returns whether a derivation comes behind the line: its first word is `p`. After it there are numbers of clauses and literals, and no operations.
 fn is_of_derivation(line: &[u8]) -> bool
     ensures { result ≡ is_mark (words_of line.now) }
 {
@@ -132,7 +132,8 @@ fn names_within(
     Ok(named)
 }
 
-/// The operations of the trace that the lines of the certificate name.
+/// The operations of the trace that the lines of the certificate name, in the order of the trace. The words are put into a set first, so that a long
+/// certificate is read once, and not for each operation. A word counts wherever it stands in its line.
 pub(crate) fn named_operations(
     alloc: Global,
     trace: &Trace,

@@ -3,7 +3,7 @@
 use std::alloc::{AllocError, Global};
 use std::collections::HashMap;
 
-/// Some words. Contracts ask of it which it has.
+/// Some words: the keys of a table, whose values say nothing. Contracts ask of it which it has.
 #[derive(Drop)]
 pub(crate) struct WordSet<'a> {
     members: HashMap<&'a [u8], bool>,

@@ -46,6 +46,7 @@ fn empty(file: &File) -> Result<(), DeviceFailure> {
 pub struct FileSink<'a> {
     path: &'a str,
     stream: StreamSink<File>,
+    /// Whether what the file had before is gone. It stays true when bytes are written.
     is_empty: bool,
 }
 
@@ -120,6 +121,7 @@ impl<'a> Sink for FileSink<'a> {
     ghost path = { λ s. s.path.now };
 
     fn write(&mut self, bytes: &[u8]) -> Result<usize, Failed> {
+        // The first write empties the file; a later one finds that done. Without this a shorter text would leave the end of the old one.
         match self.clear() {
             Ok(()) => self.stream.write(bytes),
             Err(failed) => Err(failed),

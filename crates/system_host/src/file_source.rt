@@ -18,10 +18,14 @@ pub const STANDARD_INPUT: &str = "-";
 pub struct FileSource<'a> {
     rt: &'a HostRuntime,
     path: &'a str,
+    /// The open file, or nothing before the first read. It stays empty for standard input.
     file: Option<File>,
+    /// Contracts alone see it, and the count of failures below. They take no memory.
     handed_out: Transcript,
+    /// Whether the last read that succeeded gave no byte.
     is_at_end: bool,
     failures: FailureCount,
+    /// What failed last, for explanations alone.
     failure: Option<DeviceFailure>,
 }
 
@@ -81,6 +85,7 @@ fn read_file<R: Files<File = File>>(
     }
     match file {
         Some(file) => read_open(file, buffer),
+        // This is never reached: the file was opened above, or this call has returned.
         None => Err(DeviceFailure::without_code(DeviceCall::Open)),
     }
 }

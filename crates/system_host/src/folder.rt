@@ -9,6 +9,7 @@ use std::io::ErrorKind;
 
 /// Returns whether nothing is at this path, or a folder that has nothing.
 pub(crate) fn is_free(rt: &HostRuntime, folder: &str) -> bool {
+    // The system finds nothing at the empty path, but with it `path_within` would name files of the root folder.
     if folder.is_empty() {
         return false;
     }
@@ -28,7 +29,8 @@ fn path_within(alloc: Global, folder: &str, name: &str) -> Result<String, AllocE
     format!(in alloc; "{folder}/{name}")
 }
 
-/// Makes the file at this path, or gives nothing if there is one.
+/// Makes the file at this path, or gives nothing if there is one. The system does both in one call, so that no file is overwritten that another
+/// program makes meanwhile.
 fn open_new(rt: &HostRuntime, path: &str) -> Result<Option<File>, DeviceFailure> {
     let mut options = OpenOptions::new();
     options.write(true);

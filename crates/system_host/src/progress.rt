@@ -4,7 +4,7 @@ use std::io::IsTerminal;
 use std::sync::atomic::{AtomicU64, Ordering};
 use std::time::Instant;
 
-/// The blanks that clear the line of a terminal.
+/// The blanks that clear the line of a terminal: 78 of them, so that a terminal of 80 columns does not go on to a second line.
 const CLEARED: &str =
     "                                                                              ";
 
@@ -15,10 +15,14 @@ const CLEARED: &str =
 #[derive(Drop)]
 pub struct Progress<'a> {
     rt: &'a HostRuntime,
+    /// When it began, or nothing if the system has no clock.
     start: Option<Instant>,
     is_terminal: bool,
+    /// The cubes of this round, as `begin_round` is given them.
     cubes: AtomicU64,
+    /// The cubes of this round that a worker has taken, settled ones among them.
     taken: AtomicU64,
+    /// The cubes of this round that are settled.
     settled: AtomicU64,
     /// The conflicts of all searches since the start: a round sets the numbers of cubes back, and neither it nor the end of a stage sets these back.
     conflicts: AtomicU64,
@@ -49,7 +53,8 @@ impl<'a> Progress<'a> {
         }
     }
 
-    /// Writes the one line of a terminal anew, or clears it if no cube is in work.
+    /// Writes the one line of a terminal anew, or clears it if no cube is in work. Other workers may change the numbers between two loads, so they
+    /// need not fit together.
     fn show(&self, what: &str, ticket: u32) {
         let seconds = self.seconds();
         let cubes = self.cubes.load(Ordering::SeqCst);
@@ -70,7 +75,8 @@ impl<'a> Progress<'a> {
         let _ = eprint!(self.rt; "\r{CLEARED}\r");
     }
 
-    /// Reports what became of a cube. If standard error fails, nothing is reported.
+    /// Reports what became of a cube. If standard error fails, nothing is reported. `settled` is what the caller has counted, so that
+    /// no two lines of a round on settled cubes have the same number; a terminal is shown the latest one instead.
     fn tell(&self, what: &str, worker: u32, ticket: u32, settled: u64) {
         if self.is_terminal {
             return self.show(what, ticket);
@@ -124,6 +130,7 @@ impl Gate for Progress<'_> {
     }
 
     fn begin_round(&self, jobs: usize) {
+        // All jobs of earlier rounds are settled by now, so no worker counts while these are set.
         self.cubes.store(jobs as u64, Ordering::SeqCst);
         self.taken.store(0, Ordering::SeqCst);
         self.settled.store(0, Ordering::SeqCst);

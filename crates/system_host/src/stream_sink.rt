@@ -9,8 +9,10 @@ use std::io::{ErrorKind, Write};
 #[derive(Drop)]
 pub struct StreamSink<W> {
     stream: W,
+    // Contracts alone see these two. They take no memory.
     written: Transcript,
     failures: FailureCount,
+    /// What failed last, for explanations alone.
     failure: Option<DeviceFailure>,
 }
 
@@ -53,6 +55,7 @@ fn write_some<W: Write>(stream: &mut W, bytes: &[u8]) -> Result<usize, DeviceFai
     for _ in 0..u64::MAX {
         match stream.write(bytes) {
             Ok(count) if count > 0 || bytes.is_empty() => return Ok(count),
+            // A stream that takes none of some bytes would be asked for ever.
             Ok(_) => return Err(DeviceFailure::without_code(DeviceCall::Write)),
             Err(error) if error.kind() == ErrorKind::Interrupted => {}
             Err(error) => return Err(DeviceFailure::of(DeviceCall::Write, &error)),

@@ -13,7 +13,7 @@ use std::path::Path;
 /// The path at which the system shows what standard input is.
 const INPUT_DEVICE: &str = "/dev/stdin";
 
-/// Returns whether there is a file at both paths, and it is the same one.
+/// Returns whether there is a file at both paths, and it is the same one: one number on one device. Links are followed.
 fn is_same(rt: &HostRuntime, first: &str, second: &str) -> bool {
     match (metadata(rt, first), metadata(rt, second)) {
         (Ok(first), Ok(second)) => first.dev() == second.dev() && first.ino() == second.ino(),
@@ -43,7 +43,9 @@ fn is_same_place(rt: &HostRuntime, first: &str, second: &str) -> bool {
 #[derive(Drop)]
 pub struct SystemHost<'a> {
     rt: &'a HostRuntime,
+    /// Contracts alone see it: how often a file or a folder could not be made, or a file of a folder not be written.
     failures: FailureCount,
+    /// What failed last of a file that was to be made or written. Files that are read keep their failures themselves.
     failed: Option<FailedFile<'a>>,
 }
 
@@ -82,6 +84,7 @@ impl<'a> Host<'a> for SystemHost<'a> {
     }
 
     fn create(&mut self, path: &'a str, is_emptied: bool) -> Result<FileSink<'a>, Failed> {
+        // This counts a failure by itself, so `note` is not called here.
         match FileSink::create(self.rt, path, is_emptied, &mut self.failures) {
             Ok(file) => Ok(file),
             Err(failure) => {
@@ -92,13 +95,15 @@ impl<'a> Host<'a> for SystemHost<'a> {
     }
 
     fn close(&mut self, file: FileSink<'a>) {
+        // The file has counted this failure; it is kept here for the explanation, as the file is let go.
         if let Some(failed) = file.failed() {
             self.failed = Some(failed);
         }
     }
 
     fn is_same_file(&mut self, first: &str, second: &str) -> bool {
-        // The path of standard input may also be that of a file that is written.
+        // The first path is always that of a file that is written. The second may be `-`: the file of that name if it is written too, and standard
+        // input if it is read. It is not known here which, so each of both counts.
         is_same(self.rt, first, second)
             || is_same_place(self.rt, first, second)
             || (second == STANDARD_INPUT && is_same(self.rt, first, INPUT_DEVICE))

@@ -24,7 +24,8 @@ fn cut_at_line_feed(text: &[u8]) -> (&[u8], &[u8])
     }
 }
 
-/// The first line of the text, without its line feed, and what follows it; nothing if the text has no line.
+/// The first line of the text, without its line feed, and what follows it; nothing if the text has no line. So a line feed at the very end starts
+/// no further line.
 pub fn cut_line(text: &[u8]) -> Option<(&[u8], &[u8])>
     ensures lines { MatchOption result (lines_of text.now ≡ []) (λ cut. lines_of text.now ≡ cut.0.now ∷ lines_of cut.1.now) }
     ensures shorter { MatchOption result (text.now ≡ []) (λ cut. length cut.1.now < length text.now) }

@@ -20,7 +20,7 @@ fn has_digits_alone(word: &[u8]) -> bool
     !word.is_empty() && all_digits(word)
 }
 
-/// The number that the digits of `value` write with one more digit after them, if it is below 2^64.
+/// The number that the digits of `value` write with one more digit after them, if it is below 2^64. The byte is an ASCII digit.
 fn with_digit(value: u64, digit: u8) -> Option<u64>
     requires { is_ascii_digit digit ≡ true }
     ensures { result ≡ (if nat_lt (value * 10 + digit_value digit) (2 ^ 64) then Some (value * 10 + digit_value digit) else None) }

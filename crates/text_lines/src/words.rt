@@ -57,7 +57,7 @@ pub fn cut_word(line: &[u8]) -> Option<(&[u8], &[u8])>
     }
 }
 
-/// The first words of the line, at most eleven of them, which is more than a line of a trace has.
+/// The first words of the line, at most eleven of them. A line of a trace has ten or fewer, so the eleventh shows that it has too many.
 pub fn first_words(line: &[u8]) -> InlineList<&[u8], 11>
     ensures { map (λ word. word.now) result ≡ take 11 (words_of line.now) }
 {

@@ -25,7 +25,7 @@ pub fn put<T: Copy>(table: &mut [T], place: u32, value: T) {
     }
 }
 
-/// Returns the entries from one place up to another, or none if these are no places of the table.
+/// Returns the entries from one place up to another, that one left out, or none if these are no places of the table.
 #[inline(always)]
 pub fn piece<T>(table: &[T], from: u32, to: u32) -> &[T] {
     let from = from as usize;
@@ -47,7 +47,8 @@ pub fn size<T>(table: &[T]) -> u32 {
     }
 }
 
-/// Replaces each entry by the sum of those up to it.
+/// Replaces each entry by the sum of those up to it, itself among them. So if the entry at k + 1 counts what k has, the one at k becomes the place where its
+/// part begins.
 pub fn sum_up(table: &mut [u32]) {
     let mut sum: u32 = 0;
     for place in 0..size(table) {

@@ -66,7 +66,7 @@ fn cubes_of_leaves(
     Ok(PlainList::new(cubes))
 }
 
-/// Gives what is decided of the whole trace, by the verdict on the clauses of what is kept of it.
+/// Gives what is decided of the whole trace, by the verdict on the clauses of what is kept of it. The options stand here for the clauses, which name them.
 fn decision_of(
     alloc: Global,
     reduced: &Reduced,
@@ -107,7 +107,8 @@ fn decision_of(
     }
 }
 
-/// The depth of a full tree with a leaf for each of the four searches that share what they learn.
+/// The depth of a full tree with a leaf for each of the four searches that share what they learn, which `begin_seats` gives. If the trace has fewer
+/// split variables, the tree has fewer leaves, and the searches without a leaf wait.
 const SEATS_DEPTH: u32 = 2;
 
 /// The trace that is searched, and its clauses.
@@ -132,6 +133,8 @@ fn search_before_cubes<R: Threads + Wait + Sync, G: Gate>(
     let budget = options.budget();
     let splits = layout.first_splits(alloc, options.split() as usize)?;
     prepared.count_whole(alloc, splits.len(), budget)?;
+    // The number of splits is that of the literals of a cube: ids of what is found for the whole leave room for them. Without a search to go on with,
+    // the whole is settled, or is left to the cubes.
     let Some(first) = prepared.search_whole(alloc, splits.as_slice(), budget)? else {
         return Ok(());
     };
@@ -179,6 +182,7 @@ fn refute_as_one_cube<R: Threads + Wait + Sync, S: CubeSolver + Sync, G: Gate + 
     requires { clauses.now ≡ reduced.now.kept }
     ensures { IfOk result (λ found. IfSome found (λ refutation. IsRefutation (clauses_of (kept_trace reduced.now.whole)) refutation × HasNoSchedule reduced.now.whole)) }
 {
+    // One worker, a tree of one leaf, and one round. These numbers are in their ranges, so there are such options.
     let Ok(one_cube) = Options::new(1, 0, MOST_STEPS, 1) else {
         return Ok(None);
     };
@@ -202,6 +206,7 @@ fn refute_by_counting<R: Threads + Wait + Sync, G: Gate + Sync>(
     requires { clauses.now ≡ reduced.now.kept }
     ensures { IfOk result (λ found. IfSome found (λ refutation. IsDecided options.now reduced.now.whole (Inconsistent refutation))) }
 {
+    // With a budget from `MOST_STEPS` on, the search has counted with as many steps before.
     if options.budget() == 0 || options.budget() >= MOST_STEPS {
         return Ok(None);
     }
@@ -254,6 +259,7 @@ pub fn decide<R: Threads + Wait + Sync, G: Gate + Sync>(
     }
     let decided = search_in_rounds(alloc, rt, &clauses, &prepared, options, gate)?;
     let decision = decision_of(alloc, reduced, &clauses, options, decided)?;
+    // Counting with more steps comes last, as it prepares the formula anew.
     if let Decision::Unknown(_) = &decision {
         if let Some(refutation) = refute_by_counting(alloc, rt, reduced, &clauses, options, gate)? {
             return Ok(Decision::Inconsistent(refutation));

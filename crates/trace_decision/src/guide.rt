@@ -8,7 +8,7 @@ use solver::{EncodingHints, LastWriter, ReadsFromTable, ReadsFromVariable};
 use std::alloc::{AllocError, Global};
 use var_layout::layout::Layout;
 
-/// The number of an operation as the solver takes it.
+/// The number of an operation, from 0, as the solver takes it. At most 160 operations are kept, so it always fits.
 fn element_of(operation: usize) -> u32 {
     u32::try_from(operation).unwrap_or(u32::MAX)
 }
@@ -87,6 +87,7 @@ pub fn reads_from_table(
     let mut reads_from = ReadsFromTable::new(alloc, element_of(layout.operations()))?;
     add_writers(&mut reads_from, layout);
     let runs = ClauseRuns::of(alloc, clauses)?;
+    // 0 is no clause: the run that names the clause stands before those of the writers that need it.
     let mut has_last = 0;
     for k in 0..runs.count() {
         has_last = add_run(&mut reads_from, runs.run(k), id_at(runs.start(k)), has_last)?;

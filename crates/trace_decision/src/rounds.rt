@@ -20,7 +20,8 @@ use std::alloc::{AllocError, Global};
 use std::sync::Wait;
 use std::thread::Threads;
 
-/// The leaves of the tree that have no answer, rising.
+/// The leaves of the tree that have no answer, rising: all in the first round, and then those that a split has made. A leaf that was left open and
+/// cannot be split has an answer, and is not searched again. The tree stands here for the clauses, which name it.
 fn unanswered(alloc: Global, _tree: &Tree, ledger: &Ledger) -> Result<Vec<u32>, AllocError>
     requires { cubes_in ledger.now ≡ cubes_of _tree.now }
     ensures leaves { IfOk result (λ leaves. AreWithout (HasAnswerAt ledger.now) (length ledger.now) leaves.items) }
@@ -169,6 +170,7 @@ fn search_again<R: Threads + Wait + Sync, S: CubeSolver + Sync, G: Gate + Sync>(
     };
     let before = ledger.leaves();
     let (tree, ledger) = split_all(alloc, variables, tree, ledger, open.as_slice())?;
+    // No leaf was split, so a further round would have nothing to search.
     if ledger.leaves() == before {
         return Ok(Next::Ended(Decided {
             tree,

@@ -83,6 +83,7 @@ pub(crate) fn split_all(
     let mut tree = tree;
     let mut ledger = ledger;
     for leaf in leaves {
+        // The leaves rise, so each split before this one has put one more leaf before this leaf.
         let more = ledger.leaves() - before;
         let (next_tree, next_ledger) = split_one(alloc, variables, tree, ledger, *leaf + more)?;
         tree = next_tree;

@@ -12,7 +12,7 @@ use trace_semantics::name_table::NameTable;
 use trace_semantics::operation::{Op, OpName, Origin as Told};
 use trace_semantics::trace::{Process, Trace};
 
-/// The number in a table, which has fewer names than that.
+/// The number of the name in a table, or `NO_NUMBER`.
 fn number_in(table: &NameTable<'_>, name: &Name) -> u32 {
     match table.get(name.as_bytes()) {
         Some(number) => (number & 0xffff_ffff) as u32,
@@ -33,7 +33,7 @@ impl<'a> Locations<'a> {
         LocationId::new(number_in(&self.table, name))
     }
 
-    /// Gives the location a number, unless it has one.
+    /// Gives the location the next number, counted from 0, unless it has one.
     fn enter(&mut self, name: &'a Name) -> Result<(), AllocError> {
         if self.table.get(name.as_bytes()).is_none() {
             self.table.insert(name.as_bytes(), self.count as u64)?;
@@ -43,7 +43,7 @@ impl<'a> Locations<'a> {
     }
 }
 
-/// The locations on which operations work, or of which a final value is known.
+/// The locations on which operations work, or of which a final value is known, numbered as they come. `location_names` goes the same way.
 fn locations_of(alloc: Global, trace: &Trace) -> Result<Locations<'_>, AllocError> {
     let mut locations = Locations {
         table: NameTable::new(alloc),
@@ -69,6 +69,7 @@ struct Starts<'a> {
 }
 
 impl<'a> Starts<'a> {
+    /// Numbers the processes of the trace as they come, from 0, and their operations one after the other.
     fn of(alloc: Global, trace: &'a Trace) -> Result<Starts<'a>, AllocError> {
         let mut starts = Starts {
             processes: NameTable::new(alloc),
@@ -86,7 +87,8 @@ impl<'a> Starts<'a> {
         Ok(starts)
     }
 
-    /// The number of the operation of this name.
+    /// The number of the operation of this name, if there is one. A name that the trace has not gets the number of another operation, or of none: a
+    /// caller that may have such asks `has` before.
     fn number(&self, name: &OpName) -> OperationId {
         let process = number_in(&self.processes, &name.process);
         let start = at(self.starts.as_slice(), process, NOBODY);
@@ -112,7 +114,7 @@ impl<'a> Starts<'a> {
         }
     }
 
-    /// The operation, without its process and place.
+    /// The operation, without its process and place, which `NumberedLog::add_operation` gives it.
     fn operation(&self, location: LocationId, op: &Op) -> Operation {
         let origin = match op {
             Op::Read { origin, .. } => self.origin(origin),
@@ -221,7 +223,7 @@ pub fn names_of(
     Ok(names)
 }
 
-/// The numbers of those of these names that the trace has, in the given order.
+/// The numbers of those of these names that the trace has, in the given order. So they may be fewer than the names.
 pub fn numbers_of_names(
     alloc: Global,
     trace: &Trace,
@@ -252,7 +254,7 @@ pub fn location_names<'a>(alloc: Global, trace: &'a Trace) -> Result<Vec<&'a [u8
     Ok(names)
 }
 
-/// Adds the name of the location that comes next.
+/// Adds the name of the location, if its number comes next. One of a smaller number has its name already.
 fn add_location<'a>(
     names: &mut Vec<&'a [u8]>,
     locations: &Locations<'_>,

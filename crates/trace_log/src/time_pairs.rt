@@ -19,6 +19,7 @@ struct OperationTimes {
     least_ends: Vec<u64>,
     /// Whether in each process no operation began before an earlier one did.
     rise: bool,
+    /// Whether any operation has times.
     has_any: bool,
 }
 
@@ -35,6 +36,7 @@ impl Drop for OperationTimes {
 }
 
 impl OperationTimes {
+    /// Reads the times. Ends become least ends once all of a process are there.
     fn of(alloc: Global, trace: &Trace) -> Result<OperationTimes, AllocError> {
         let mut times = OperationTimes {
             starts: Vec::new(alloc),
@@ -63,7 +65,7 @@ impl OperationTimes {
         Ok(times)
     }
 
-    /// Makes least ends of the ends from this operation on.
+    /// Makes least ends of the ends from this operation on, which are those of one process.
     fn lower_ends(&mut self, begin: OperationId) {
         let mut least = u64::MAX;
         for number in (begin.number()..size(self.least_ends.as_slice())).rev() {
@@ -93,6 +95,7 @@ impl OperationTimes {
         known: ProcessPlace,
         start: u64,
     ) -> ProcessPlace {
+        // The answer is mostly near, so steps are doubled before they are halved. All places up to `low` had ended, or are known, and none behind `high` had.
         let mut low = known.number();
         let mut high = log.length(process);
         let mut step: u32 = 1;
@@ -112,6 +115,7 @@ impl OperationTimes {
             if low >= high {
                 break;
             }
+            // It is rounded up, so that `low` moves.
             let middle = high.wrapping_sub(high.wrapping_sub(low) / 2);
             if self.had_ended(log.number(process, ProcessPlace::new(middle)), start) {
                 low = middle;
@@ -153,7 +157,7 @@ impl EndedFronts {
         })
     }
 
-    /// Begins a process.
+    /// Begins a process, at whose first operation nothing is known.
     fn clear(&mut self) {
         for process in 0..size(self.fronts.as_slice()) {
             put(self.fronts.as_mut_slice(), process, ProcessPlace::START);
@@ -201,6 +205,7 @@ impl EndedFronts {
         second: OperationId,
     ) -> Result<(), AllocError> {
         for first in self.news.as_slice() {
+            // What had ended before that time stands before the second operation by other pairs.
             if times.least_end(*first) >= self.covered && log.pairs().len() < MOST_PAIRS {
                 log.add_pair(NumberedPair {
                     first: *first,
@@ -231,6 +236,7 @@ pub(crate) fn add_times(
         if log.operation(number).place == ProcessPlace::FIRST {
             fronts.clear();
         }
+        // Nothing had ended before 0, and what has no times begins there.
         if times.start(number) != 0 {
             fronts.look_at(log, &times, number)?;
             fronts.add_pairs(log, &times, number)?;

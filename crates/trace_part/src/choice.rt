@@ -60,6 +60,7 @@ pub fn chosen_ops<'a>(
     let mut set = OpSet::new(alloc);
     for k in 0..names.len() {
         if let Some(cause) = fault_of_name(trace, &set, &names[k]) {
+            // faults count the names from 1
             return Err(PlacedFault::At(cause, k + 1));
         }
         set.insert(&names[k])?;

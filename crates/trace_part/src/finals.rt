@@ -30,7 +30,8 @@ fn is_followed(order: &ForcedOrder, writers: &[ChosenWriter], first: OperationNu
     writers.iter().any(|x| order.stands(first, x.name))
 }
 
-/// Returns whether the final value of the location may be what this writer has left.
+/// Returns whether the final value of the location may be what this writer has left. It leaves that value, and no writer of the location stands
+/// after it.
 fn may_be_last(
     order: &ForcedOrder,
     writers: &[ChosenWriter],
@@ -51,13 +52,15 @@ fn are_last_chosen(order: &ForcedOrder, writers: &[ChosenWriter], value: u64) ->
         .all(|w| w.chosen || !may_be_last(order, writers, w, value))
 }
 
+/// Returns whether one of the writers is among the operations of which the part is made.
 fn is_some_chosen(writers: &[ChosenWriter]) -> bool
     ensures { result ≡ list_any (λ (w : Row). w.chosen) writers.now }
 {
     writers.iter().any(|w| w.chosen)
 }
 
-/// Returns whether a final value stays, by the writers of its location.
+/// Returns whether a final value stays, by the writers of its location. If the location has writers and none is chosen, the part would compare the
+/// final value with the initial one, so it does not stay.
 fn stays_by(order: &ForcedOrder, writers: &[ChosenWriter], value: u64) -> bool
     ensures { result ≡ (list_all (λ (w : Row). w.chosen || not (row_is_last order.now writers.now value w)) writers.now && (list_any (λ (w : Row). w.chosen) writers.now || (length writers.now == 0))) }
 {

@@ -18,7 +18,9 @@ use trace_semantics::trace::Process;
 
 /// What remains of a process: the old places, and the operations.
 pub struct Left {
+    /// The places in the whole trace, rising. Element k is that of element k of `ops`.
     places: Vec<u32>,
+    /// What stays of the operations there. Their origins have the names of the whole trace until `new_processes` renames them.
     ops: Vec<Op>,
 }
 
@@ -66,7 +68,7 @@ impl Left {
     }
 }
 
-/// Returns what remains of a process.
+/// Returns what remains of a process. `number` is that of the process, from 0.
 fn left_of<'a>(
     alloc: Global,
     selection: &Selection<'a>,
@@ -98,6 +100,7 @@ pub fn all_left<'a>(alloc: Global, selection: &Selection<'a>) -> Result<Vec<Left
     let processes = selection.trace.processes();
     let mut all = Vec::new(alloc);
     for k in 0..processes.len() {
+        // a trace has at most 64 processes, so the cast loses nothing
         all.push(left_of(alloc, selection, &processes[k], k as u16)?)?;
     }
     Ok(all)

@@ -16,17 +16,20 @@ use trace_semantics::trace::Trace;
 /// A name that remains, by numbers, and its place in the part.
 #[derive(Clone, Copy, Drop)]
 pub struct LeftName {
+    /// Its process, and its place in the whole trace.
     pub name: OperationNumber,
+    /// Its place in the part, counted from 1.
     pub new: u32,
 }
 
-/// Returns the names that remain of the process of this number.
+/// Returns the names that remain of the process of this number. They rise by place, which the bisection of `pairs` needs.
 fn names_in(alloc: Global, left: &Left, number: u16) -> Result<PlainList<LeftName>, AllocError>
     ensures { IfOk result (λ names. names ≡ map (row_at_place number left.now.places) left.now.places) }
 {
     let places = left.places();
     let mut names = Vec::new(alloc);
     for k in 0..places.len() {
+        // the places rise, so this is k + 1; it is counted anew for each place, as the contract counts it
         let new = count_up_to(places, places[k]) as u32;
         names.push(LeftName {
             name: OperationNumber {

@@ -67,6 +67,7 @@ pub fn writer_table<'a>(
     let processes = trace.processes();
     let mut table = WriterTable::new(alloc);
     for k in 0..processes.len() {
+        // a trace has at most 64 processes, so the cast loses nothing
         list_process(alloc, &mut table, set, &processes[k], k as u16)?;
     }
     Ok(table)

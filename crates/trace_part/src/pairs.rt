@@ -23,7 +23,8 @@ use trace_semantics::name::Name;
 use trace_semantics::operation::OpName;
 use trace_semantics::trace::Trace;
 
-/// Returns how many names of the group come before the first that the order puts after m.
+/// Returns how many names of the group come before the first that the order puts after m. This is a bisection: what stands before a name stands
+/// before the later ones of its process, so these come last in the group.
 fn count_before(order: &ForcedOrder, m: LeftName, group: &[LeftName]) -> usize
     requires forward { told.IsForwardFrom order.now m group.now }
     ensures { find (λ (n : Row). stands_by order.now m.name n.name) group.now ≡ slice_get group.now result }
@@ -49,14 +50,16 @@ fn is_before(order: &ForcedOrder, next: Option<LeftName>, n: LeftName) -> bool
     }
 }
 
-/// Returns whether m and n make a before pair of the part, if n is the first of its process that the order puts after m.
+/// Returns whether m and n make a before pair of the part, if n is the first of its process that the order puts after m. If the name after m in its
+/// process stands before n too, the pair of m and n follows from that one's pair and program order.
 fn is_told(order: &ForcedOrder, m: LeftName, next: Option<LeftName>, n: LeftName) -> bool
     ensures { result ≡ told.is_told_first order.now m next n }
 {
     m.name.process != n.name.process && !is_before(order, next, n)
 }
 
-/// Appends the pair of m and one of the names of a process, if there is one. The name after m in its process is `next`.
+/// Appends the pair of m and one of the names of a process, if there is one. The name after m in its process is `next`. Of the group only the first
+/// that the order puts after m is looked at: the pairs with the later ones follow from that one and program order.
 fn push_told_in(
     pairs: &mut Vec<(LeftName, LeftName)>,
     order: &ForcedOrder,
@@ -146,6 +149,7 @@ fn new_name(alloc: Global, trace: &Trace, row: LeftName) -> Result<OpName, Alloc
             place: row.new,
         })
     } else {
+        // never reached: `left_groups` numbers the processes of this trace, and some error must be returned
         Err(AllocError)
     }
 }
@@ -171,7 +175,7 @@ fn is_untimed(trace: &Trace, pair: (LeftName, LeftName)) -> bool
     !ended_before(trace, pair.0.name, pair.1.name)
 }
 
-/// Returns the pairs that do not follow from times.
+/// Returns the pairs that do not follow from times. The part keeps the times of its operations, so they say the other pairs again.
 fn untimed_pairs(
     alloc: Global,
     trace: &Trace,
@@ -188,7 +192,8 @@ fn untimed_pairs(
     Ok(left)
 }
 
-/// The most pairs that a part has.
+/// The most pairs that a part has. It is the limit of `before` lines of versions 1 and 2. Pairs may be left out: a part with fewer has no fewer
+/// legal schedules. The definition `part` of `part_law` has the same number.
 const MAX_TOLD: usize = 4096;
 
 /// Returns the first 4,096 pairs.

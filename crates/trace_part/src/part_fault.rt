@@ -11,7 +11,7 @@ pub enum PartCause {
     RepeatedOp,
 }
 
-/// The fault for which no part is made: a cause and the place of the name among the names, or out of memory.
+/// The fault for which no part is made: a cause and the place of the name among the names, counted from 1, or that memory ran out.
 pub type PartFault = PlacedFault<PartCause>;
 
 impl FaultCause for PartCause {
@@ -23,6 +23,7 @@ impl FaultCause for PartCause {
 
     fn number(&self) -> u8 {
         match self {
+            // 1 says that memory ran out, for faults of all kinds
             PartCause::UnknownOp => 2,
             PartCause::RepeatedOp => 3,
         }

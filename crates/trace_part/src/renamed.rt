@@ -26,6 +26,7 @@ fn old_places<'a>(alloc: Global, all: &'a [Left]) -> Result<Vec<LeftPlaces<'a>>,
     Ok(places)
 }
 
+/// Returns the operations with the new names of their origins.
 fn new_ops<'a>(
     alloc: Global,
     trace: &Trace,

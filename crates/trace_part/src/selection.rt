@@ -9,7 +9,9 @@ use trace_semantics::trace::Trace;
 pub struct Selection<'a> {
     pub trace: &'a Trace,
     pub order: ForcedOrder,
+    /// The operations that are selected, by their names in the whole trace.
     pub set: OpSet<'a>,
+    /// Each writer has a mark if it is in `set`.
     pub writers: WriterTable<'a>,
 }
 

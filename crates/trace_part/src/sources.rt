@@ -32,7 +32,8 @@ fn is_same(first: OperationNumber, second: OperationNumber) -> bool
     first.process == second.process && first.place == second.place
 }
 
-/// Returns the writer after this one in the list.
+/// Returns the writer after this one in the list. The list has the writers by process and then by place, so that is the next of its process, if
+/// there is one.
 fn next_writer(writers: &[ChosenWriter], k: usize) -> Option<&ChosenWriter>
     requires within { k < length writers.now }
     ensures { option_copied result ≡ slice_get writers.now (k + 1) }
@@ -40,7 +41,8 @@ fn next_writer(writers: &[ChosenWriter], k: usize) -> Option<&ChosenWriter>
     writers.get(k + 1)
 }
 
-/// Returns whether the next writer takes the writer's place: it is of the same process, no earlier, and stands before the reader too.
+/// Returns whether the next writer takes the writer's place: it is of the same process, no earlier, and stands before the reader too. Process and
+/// place are compared here, so no answer rests on the order of the list: in another order only more writers would count as the latest.
 fn follows(
     order: &ForcedOrder,
     writer: &ChosenWriter,
@@ -87,7 +89,8 @@ fn push_latest(
     Ok(())
 }
 
-/// Returns the last writers of the processes that stand before the reader.
+/// Returns the last writers of the processes that stand before the reader. Whether a writer is overwritten need be asked of these alone: what
+/// stands before an earlier writer stands before the later ones of its process too.
 fn latest_before(
     alloc: Global,
     order: &ForcedOrder,
@@ -116,7 +119,8 @@ fn is_overwritten(order: &ForcedOrder, names: &[OperationNumber], first: Operati
     names.iter().any(|x| order.stands(first, *x))
 }
 
-/// Returns whether the reader may read this value from the writer.
+/// Returns whether the reader may read this value from the writer. `names` are the latest writers before the reader. An update is a writer too, but
+/// does not read what it leaves itself.
 fn may_be_source(
     order: &ForcedOrder,
     names: &[OperationNumber],
@@ -132,7 +136,8 @@ fn may_be_source(
         && !is_overwritten(order, names, writer.name)
 }
 
-/// Returns whether all writers are chosen from which the reader may read this value.
+/// Returns whether all writers are chosen from which the reader may read this value. The initial value is no writer: each part has all initial
+/// values.
 fn are_sources_chosen(
     order: &ForcedOrder,
     writers: &[ChosenWriter],

@@ -48,6 +48,7 @@ fn is_writer(trace: &Trace, name: &OpName) -> bool
     }
 }
 
+/// Returns whether the operation is one of those of which the part is made.
 fn is_chosen(set: &OpSet, name: &OpName) -> bool
     ensures { result ≡ has set.now name.now }
 {
@@ -77,7 +78,8 @@ fn are_sources_selected<'a>(
     sources_chosen(alloc, &selection.order, writers, reader, value)
 }
 
-/// Returns whether the part says what the operation reads.
+/// Returns whether the part says what the operation reads. A value that is said to be the initial one stays without a condition: no operation
+/// writes the location before the read, and in the part there are no more operations.
 fn keeps_read<'a>(
     alloc: Global,
     selection: &Selection<'a>,
@@ -115,6 +117,7 @@ fn copy_of_origin(alloc: Global, origin: &Origin) -> Result<Origin, AllocError>
     }
 }
 
+/// Returns a read of the part. Origins keep the names of the whole trace here, and get new ones in `renamed`.
 fn new_read(
     alloc: Global,
     location: &Name,
@@ -184,7 +187,7 @@ fn read_stays(
     }
 }
 
-/// Returns what stays of a chosen update.
+/// Returns what stays of a chosen update. One whose read is not kept still writes, so a write stays of it.
 fn update_stays(
     alloc: Global,
     keeps: bool,
@@ -244,7 +247,8 @@ fn stays_of<'a>(
     }
 }
 
-/// Returns what stays of the operation at this place.
+/// Returns what stays of the operation at this place. `number` is that of the process, and k counts from 0, so the place is k + 1. Nothing stays of
+/// an operation that is not chosen.
 pub fn stays_at<'a>(
     alloc: Global,
     selection: &Selection<'a>,

@@ -23,6 +23,7 @@ fn push_at(
 /// The writers of each location on which operations write, under the number of the location.
 #[derive(Drop)]
 pub struct WriterTable<'a> {
+    /// The place of each location in `lists`, counted from 0 in the order in which they first come.
     numbers: NameTable<'a>,
     lists: Vec<PlainList<ChosenWriter>>,
 }
@@ -55,6 +56,7 @@ impl<'a> WriterTable<'a> {
         ensures same { OnOk result ((q : List ℕ) → writers_at self.new q ≡ writers_at self.old q) }
     {
         let number = self.lists.len() as u64;
+        // the list comes first, so no number is ever without a list
         self.lists.push(PlainList::empty(alloc))?;
         self.numbers.insert(location, number)?;
         Ok(number)

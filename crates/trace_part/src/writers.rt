@@ -15,11 +15,13 @@ use trace_semantics::trace::Process;
 #[derive(Drop)]
 pub struct ChosenWriter {
     pub name: OperationNumber,
+    /// What it leaves. It is always there, since `row_at` makes rows of writing operations alone.
     pub value: Option<u64>,
+    /// Whether it is one of the operations of which the part is made.
     pub chosen: bool,
 }
 
-/// Returns the operation at a place as a row, if it writes the location.
+/// Returns the operation at a place as a row, if it writes the location. `number` is that of the process, and the place is k + 1.
 pub fn row_at<'a>(
     set: &OpSet<'a>,
     process: &'a Process,

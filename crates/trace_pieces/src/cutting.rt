@@ -19,7 +19,8 @@ fn first_line(text: &[u8]) -> (&[u8], &[u8])
     }
 }
 
-/// Passes the first piece of the text, and gives what follows it and the number of the piece's lines.
+/// Passes the first piece of the text, and gives what follows it and the number of the piece's lines. `said` is whether a line of this piece has
+/// said something.
 fn after_piece(text: &[u8]) -> (&[u8], usize)
     requires { 0 < length text.now }
     ensures { CutOff text.now result.0.now result.1 }
@@ -49,7 +50,8 @@ fn has_whole_line(text: &[u8]) -> bool
     }
 }
 
-/// Returns whether the first piece ends before this rest of the text, whatever follows it.
+/// Returns whether the first piece ends before this rest of the text, whatever follows it. `rest` begins with the line that was seen to begin a
+/// trace. If that line is not whole, its first word may yet become a longer one than `vsc`.
 fn ends_before(rest: &[u8], is_last: bool) -> bool
     ensures whole { result ≡ true → is_last ≡ false → HasWholeLine rest.now }
     ensures last { is_last ≡ true → result ≡ true }

@@ -26,7 +26,8 @@ pub fn says_something(line: &[u8]) -> bool
     }
 }
 
-/// Returns whether the line begins another trace, if an earlier line of the piece said something.
+/// Returns whether the line begins another trace, if an earlier line of the piece said something. The first line of a piece that says something
+/// belongs to the piece, also if it is a header.
 pub(crate) fn begins_next(said: bool, line: &[u8]) -> bool
     ensures { result ≡ (said && begins_trace line.now) }
 {

@@ -7,7 +7,7 @@ ghost use Rattle.trace_semantics.specs.KnownOrder.{ends_before, has_span, says_t
 use crate::operation::{Op, Span};
 use crate::trace::{Process, Trace};
 
-/// Returns whether there are both spans, and the first ends before the second starts.
+/// Returns whether there are both spans, and the first ends before the second starts. Equal times say nothing of the order.
 pub fn ends_before(earlier: Option<Span>, later: Option<Span>) -> bool
     ensures { result ≡ ends_before earlier later }
 {

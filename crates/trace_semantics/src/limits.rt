@@ -9,24 +9,29 @@ pub const MAX_PROCESSES: usize = 64;
 /// Maximum length of a name, in bytes.
 pub const MAX_NAME: usize = 32;
 
-/// Maximum number of operations, and so of names of a schedule: of versions 1 and 2, and of version 3.
+/// Maximum number of operations, and so of names of a schedule, in versions 1 and 2. Of each pair of constants here, the one that begins with `SMALL`
+/// is that of these versions, and the other is that of version 3.
 pub const SMALL_OPERATIONS: usize = 4096;
 
+/// Maximum number of operations in version 3, which each trace keeps.
 pub const MAX_OPERATIONS: usize = 1_048_576;
 
 /// Maximum number of locations that are named, in the same way.
 pub const SMALL_LOCATIONS: usize = 4096;
 
+/// The same in version 3.
 pub const MAX_LOCATIONS: usize = 65_536;
 
 /// Maximum number of pairs of operations of which one is known to stand before the other, in the same way.
 pub const SMALL_PAIRS: usize = 4096;
 
+/// The same in version 3.
 pub const MAX_PAIRS: usize = 4_194_304;
 
 /// Highest place of an operation in its process that a text can name, in the same way.
 pub const SMALL_PLACE: u64 = 65_535;
 
+/// The same in version 3. It is above the number of operations of any trace.
 pub const MAX_PLACE: u64 = 4_294_967_295;
 
 /// What a text has room for, by its version.

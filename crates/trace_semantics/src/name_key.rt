@@ -13,6 +13,7 @@ use std::marker::Model;
 /// The bytes of a name, as a key of a table. A hasher gets them in one call, and so takes many at once.
 #[derive(Drop)]
 pub struct NameKey<'a> {
+    /// Borrowed, so a look-up takes no memory.
     bytes: &'a [u8],
 }
 

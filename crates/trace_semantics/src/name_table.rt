@@ -39,6 +39,7 @@ impl<'a> NameTable<'a> {
         ensures { IfOk result (λ table. (location : List ℕ) → number_of table location ≡ value_of values.now location) }
     {
         let mut table = NameTable::with_capacity(alloc, values.len())?;
+        // from last to first, so that of a location that is listed twice the first value stays
         for k in (0..values.len()).rev() {
             let entry = &values[k];
             table.insert(entry.0.as_bytes(), entry.1)?;

@@ -7,6 +7,7 @@ use std::collections::HashMap;
 /// Some operations, by the names of their processes and their places. Contracts ask of it which it has.
 #[derive(Drop)]
 pub struct OpSet<'a> {
+    /// The keys are the members; the value beside a key is always true and is not read.
     members: HashMap<(&'a [u8], usize), bool>,
 }
 

@@ -7,7 +7,8 @@ ghost use Rattle.trace_semantics.specs.PairOrder.{order_of};
 
 use crate::trace::Process;
 
-/// Returns the number of the process of this name, counted from 0, if there is one.
+/// Returns the number of the process of this name, counted from 0, if there is one. It goes over the processes one by one, of which a trace has at
+/// most 64.
 pub fn find_process(processes: &[Process], name: &[u8]) -> Option<usize>
     ensures { result ≡ position (λ (p : Listed). bytes_eq p.name name.now) processes.now }
 {

@@ -61,9 +61,12 @@ impl Drop for Process {
 
 /// What each process read and wrote, what memory held before and after, and which orders are known.
 pub struct Trace {
+    /// At most 64 of them. The number of a process is its place here, from 0.
     processes: Vec<Process>,
+    /// One value for each location, rising by the bytes of the location; so are the final values.
     initial: Vec<(Name, u64)>,
     final_values: Vec<(Name, u64)>,
+    /// Rising by the number of the process and the place of the first operation, then of the second; each pair once.
     before: Vec<(OpName, OpName)>,
 }
 

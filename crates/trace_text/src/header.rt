@@ -29,7 +29,7 @@ pub struct Header<'a> {
     pub version: Version,
     /// The text after the header.
     pub rest: &'a [u8],
-    /// The number of the line after the header.
+    /// The number of the line after the header. Lines are counted from 1, all of them.
     pub next: usize,
 }
 
@@ -95,5 +95,6 @@ pub fn read_header(text: &[u8]) -> Result<Header<'_>, TraceFault>
         rest = after;
         next += 1;
     }
+    // a missing header stands at the line after the last
     Err(PlacedFault::At(TraceCause::Header, next))
 }

@@ -20,6 +20,7 @@ use trace_semantics::trace::{Process, Trace};
 #[derive(Drop)]
 struct LocationCount<'a> {
     names: NameTable<'a>,
+    /// The number of names, or one more than versions 1 and 2 allow if there are more than that.
     count: usize,
 }
 

@@ -26,6 +26,7 @@ fn is_of_operation(statement: Statement<'_>) -> bool
     )
 }
 
+/// Returns whether the process that a source names is a name. The place beside it is a number, which is read later.
 fn source_is_named(source: ReadsFrom<'_>) -> bool
     ensures { result ≡ list_all is_name (names_of_source (said_source source.entry)) }
 {

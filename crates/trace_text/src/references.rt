@@ -21,7 +21,8 @@ use text_lines::words::first_words;
 use trace_semantics::place::read_place;
 use trace_semantics::trace::Process;
 
-/// Returns whether the process has this name, and an operation at this place. Places are counted from 1.
+/// Returns whether the process has this name, and an operation at this place. Places are counted from 1. The place must be 1 or more, as
+/// `read_place` gives it, for there is no look at 0 here.
 fn has_place(process: &Process, name: &[u8], place: u32) -> bool
     ensures { result ≡ is_of name.now place process.now }
 {
@@ -36,7 +37,8 @@ fn some_has_place(processes: &[Process], name: &[u8], place: u32) -> bool
         .any(|process| has_place(process, name, place))
 }
 
-/// Returns whether one of the processes has the operation that is named. A word that is no place names none.
+/// Returns whether one of the processes has the operation that is named. A word that is no place names none. The limit of the version is not asked
+/// here: the first reading of the text has refused higher places.
 fn has_operation(processes: &[Process], name: &[u8], place: &[u8]) -> bool
     ensures { result ≡ is_among processes.now (name.now, place.now) }
 {
@@ -96,7 +98,8 @@ fn fault_of_names(processes: &[Process], statement: Statement<'_>) -> Result<(),
     Ok(())
 }
 
-/// Checks the operations that a line names.
+/// Checks the operations that a line names. A line that says no statement is passed: it is the header, as the first reading of the text has refused
+/// all others.
 fn check_line(version: Version, processes: &[Process], line: &[u8]) -> Result<(), LineRefusal>
     ensures refused { IfErr result (IsRefusedFor (fault_of_line version processes.now line.now)) }
     ensures fine { OnOk result (fault_of_line version processes.now line.now ≡ None) }
@@ -129,7 +132,7 @@ fn check_lines(version: Version, processes: &[Process], text: &[u8]) -> Result<(
 }
 
 /// Checks that the operations that the lines of a text name are operations of these processes. A text of version 1
-/// names none.
+/// names none. The text is gone over a second time for that, as a line may name an operation that comes after it.
 pub fn check_references(
     version: Version,
     processes: &[Process],

@@ -26,8 +26,10 @@ pub struct Seen<'a> {
     final_values: NameTable<'a>,
     processes: NameTable<'a>,
     locations: NameTable<'a>,
+    /// The tables do not know how many names they have, so names are counted beside them.
     process_count: usize,
     operation_count: usize,
+    /// All `before` lines are counted, also those that repeat a pair.
     before_count: usize,
     location_count: usize,
 }
@@ -164,7 +166,8 @@ impl<'a> Seen<'a> {
         Ok(())
     }
 
-    /// Notes what a line says, unless the lines before it make a fault of it.
+    /// Notes what a line says, unless the lines before it make a fault of it. After a refusal the state may hold half of what the line says: it is
+    /// not used again, as the reading ends.
     pub fn take(&mut self, limits: Limits, statement: Statement<'a>) -> Result<(), LineRefusal>
         requires { self.old.location_count ≤ max_locations limits }
         ensures refused { IfErr result (IsRefusedFor (fault_behind limits self.old (said statement.entry))) }

@@ -30,7 +30,8 @@ pub enum TimesSaid<'a> {
     At(&'a [u8], &'a [u8]),
 }
 
-/// What a line says, its names and numbers as they are written.
+/// What a line says, its names and numbers as they are written. They stand in the order of the line: a location before its value, a process before
+/// a place.
 #[derive(Clone, Copy)]
 pub enum Statement<'a> {
     /// The initial value of a location.
@@ -197,7 +198,8 @@ fn with_times<'a>(statement: Statement<'a>, start: &'a [u8], end: &'a [u8]) -> O
     }
 }
 
-/// Gives what the words of a line say that are an operation and `at START END` after it.
+/// Gives what the words of a line say that are an operation and `at START END` after it. `first_words` gives no more than 11 words of a line. If it
+/// has cut one off, 8 words stand before the last three here, and no untimed line has 8.
 fn read_timed_statement<'a>(words: &[&'a [u8]]) -> Option<Statement<'a>>
     ensures { option_map said result ≡ timed_statement (map (λ word. word.now) words.now) }
 {

@@ -45,7 +45,7 @@ pub enum TraceCause {
 /// Why a text is not read as a trace: its first fault and its line, counted from 1, or that memory ran out.
 pub type TraceFault = PlacedFault<TraceCause>;
 
-/// Why a line is not taken, if the line is known to the caller alone.
+/// Why a line is not taken, if the line is known to the caller alone. The caller gives it the number of the line by `at`.
 pub(crate) type LineRefusal = PlainFault<TraceCause>;
 
 impl FaultCause for TraceCause {
@@ -57,6 +57,7 @@ impl FaultCause for TraceCause {
 
     fn number(&self) -> u8 {
         match self {
+            // 1 says that memory ran out, for faults of all kinds
             TraceCause::NotAscii => 2,
             TraceCause::Header => 3,
             TraceCause::UnknownLine => 4,

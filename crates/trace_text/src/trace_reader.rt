@@ -49,7 +49,8 @@ impl<'a> TraceReader<'a> {
         }
     }
 
-    /// Takes what a line says.
+    /// Takes what a line says. The order of the checks decides which fault is reported of a line that has several; `statement_fault` has the same
+    /// order.
     fn take_statement(
         &mut self,
         alloc: Global,
@@ -90,7 +91,7 @@ impl<'a> TraceReader<'a> {
         }
     }
 
-    /// Takes a line.
+    /// Takes a line. A comment is skipped before its bytes are looked at, so it may have any.
     fn take_line(
         &mut self,
         alloc: Global,
@@ -143,6 +144,7 @@ fn finish(text: &[u8], version: Version, reader: TraceReader<'_>) -> Result<Trac
     ensures spelled { IfOk result (SpellsTrace text.now) }
 {
     let TraceReader { mut gathered, .. } = reader;
+    // first, since `processes` shows closed processes alone
     gathered.close_process()?;
     check_references(version, gathered.processes(), text)?;
     gathered.arrange()?;

@@ -48,6 +48,7 @@ fn process_says_origin(process: &Process) -> bool
         .any(|op| says_origin(op))
 }
 
+/// Returns whether some operation of these processes says where its value comes from.
 fn any_says_origin(processes: &[Process]) -> bool
     ensures { result ≡ list_any (λ (p : Process). list_any spelled.has_origin p.operations) processes.now }
 {
@@ -74,6 +75,7 @@ fn wants_version_3(alloc: Global, trace: &Trace) -> Result<bool, AllocError>
     if trace.before().len() > Limits::Small.max_pairs() {
         return Ok(true);
     }
+    // last, since this check alone takes memory
     has_many_locations(alloc, trace)
 }
 

@@ -17,7 +17,8 @@ pub enum Version {
 }
 
 impl Version {
-    /// Returns whether the lines of version 2 may stand in the text.
+    /// Returns whether the lines of version 2 may stand in the text. These are `before` lines and reads that say their source; version 3 has them
+    /// too.
     pub fn has_version_2_lines(self) -> bool
         ensures { result ≡ has_version_2_lines self }
     {

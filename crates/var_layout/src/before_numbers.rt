@@ -8,7 +8,7 @@ use crate::numbering::Numbering;
 use std::alloc::{AllocError, Global};
 use trace_semantics::operation::OpName;
 
-/// The numbers of both operations of each pair.
+/// The numbers of both operations of each pair. A trace's pairs are of its own operations, so each name has a number.
 pub(crate) fn before_numbers(
     alloc: Global,
     numbering: &Numbering<'_>,

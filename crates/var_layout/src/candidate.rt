@@ -16,7 +16,7 @@ pub struct ReadsFromChoice {
     pub variable: u32,
 }
 
-/// A writer of a location, and the variable that says that it is the last one.
+/// A writer of a location that leaves its final value, and the variable that says that it is the last one.
 #[derive(Clone, Copy)]
 pub struct FinalChoice {
     pub writer: usize,

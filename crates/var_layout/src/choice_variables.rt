@@ -28,7 +28,7 @@ pub(crate) struct OpVariables {
     pub writers: Vec<usize>,
     /// Its candidates with their variables.
     pub choices: Vec<ReadsFromChoice>,
-    /// Its void variable.
+    /// Its void variable, if it reads and has no candidate. Two clauses contradict each other by it, so the formula has no model.
     pub void: Option<u32>,
 }
 
@@ -48,7 +48,7 @@ pub(crate) fn order_count(count: usize) -> u32
     (count * count.saturating_sub(1) / 2) as u32
 }
 
-/// The numbers other than this one.
+/// The numbers other than this one. An update is a writer of its own location, and never reads from itself.
 fn others(alloc: Global, i: usize, writers: &[usize]) -> Result<Vec<usize>, AllocError>
     ensures { IfOk result (λ found. found.items ≡ numbers.others i writers.now) }
 {
@@ -90,7 +90,7 @@ fn candidates(
     }
 }
 
-/// The candidates with their variables, from this one on.
+/// The candidates with their variables, from the variable `first` on.
 fn numbered(
     alloc: Global,
     candidates: &[Candidate],
@@ -122,14 +122,15 @@ fn leader_of(numbering: &Numbering<'_>, i: usize) -> usize
     count
 }
 
-/// This variable, if it is void.
+/// This variable, if its owner needs a void one: `first` is the next variable that is free.
 pub(crate) fn void_variable(is_void: bool, first: u32) -> Option<u32>
     ensures { result ≡ (if is_void then Some first else None) }
 {
     if is_void { Some(first) } else { None }
 }
 
-/// Gives what the layout keeps of an operation, whose variables begin with this one.
+/// Gives what the layout keeps of an operation, whose variables begin with this one. A void variable is needed only without any choice, so
+/// both may begin with it.
 pub(crate) fn op_table(
     alloc: Global,
     numbering: &Numbering<'_>,
@@ -157,7 +158,7 @@ pub(crate) fn op_table(
     })
 }
 
-/// The number of variables of the operation.
+/// The number of variables of the operation: one for each candidate, or else the void one. One that does not read has none.
 fn op_variable_count(table: &OpVariables) -> u32
     requires { length table.now.choices ≤ 161 }
     ensures { result ≡ (if table.now.reads then max 1 (length table.now.choices) else 0) }
@@ -182,6 +183,7 @@ pub(crate) fn op_tables(
 {
     let count = numbering.count();
     let mut made = Vec::with_capacity(alloc, count)?;
+    // Variables begin at 1, and those of the order come first.
     let mut next = order_count(count) + 1;
     for i in 0..count {
         let table = op_table(alloc, numbering, trace, i, next)?;

@@ -27,7 +27,7 @@ pub(crate) struct FinalTable {
     pub writers: Vec<usize>,
     /// The writers that leave it, with their variables.
     pub choices: Vec<FinalChoice>,
-    /// Its void variable.
+    /// Its void variable, if no writer leaves it and it is not there from the start. Two clauses contradict each other by it.
     pub void: Option<u32>,
 }
 
@@ -63,7 +63,8 @@ fn leavers(
         .collect(alloc)
 }
 
-/// Returns whether the location has no writer, and its initial value, which the table has, is the final one.
+/// Returns whether the location has no writer, and its initial value, which the table has, is the final one. Such a final value has no
+/// variables and no clauses.
 fn is_untouched<'a>(initial: &NameTable<'a>, entry: &'a (Name, u64), writers: &[usize]) -> bool
     ensures { result ≡ (length writers.now == 0) && judgement.is_held (number_of initial.now entry.now.0) entry.now.1 }
 {

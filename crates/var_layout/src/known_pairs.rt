@@ -21,7 +21,7 @@ fn span_at(numbering: &Numbering<'_>, i: usize) -> Option<Span>
     }
 }
 
-/// Returns whether times put i before j, and program order does not.
+/// Returns whether times put i before j, and program order does not: its clauses say that already.
 fn is_timed(numbering: &Numbering<'_>, i: usize, j: usize) -> bool
     ensures { result ≡ known.is_timed numbering.now i j }
 {
@@ -81,7 +81,7 @@ fn push_said_after(
     Ok(())
 }
 
-/// Returns all pairs, where an operation has times.
+/// Returns all pairs, by rising first and then second number, if an operation has times. `before` has the before pairs by number.
 fn said_pairs(
     alloc: Global,
     numbering: &Numbering<'_>,
@@ -98,7 +98,8 @@ fn said_pairs(
     Ok(said)
 }
 
-/// The pairs of operations of which the trace says that the first stands before the second, by its before pairs or by times.
+/// The pairs of operations of which the trace says that the first stands before the second, by its before pairs or by times. Without times
+/// they are the before pairs alone, which a trace has in the same rising order, and not all pairs of operations need be tried.
 pub(crate) fn known_pairs(
     alloc: Global,
     numbering: &Numbering<'_>,

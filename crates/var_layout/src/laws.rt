@@ -17,7 +17,8 @@ ghost use Rattle.var_layout.specs.OrderVariables.{order_count, order_var, order_
 ghost use Rattle.var_layout.specs.Split.{splits};
 ghost use Rattle.var_layout.specs.StoreBuffering.{store_buffering, initial_choice};
 
-/// The variables of store buffering.
+/// The variables of store buffering, by operation: 0 writes x and 1 reads y, in one process; 2 writes y and 3 reads x, in another. The six
+/// pairs have the variables 1 to 6, the two reads 7 and 8; 3 and 4 are of the pairs (0, 3) and (1, 2), the only ones in conflict.
 pub fn store_buffering_has_these_variables()
     ensures count { variable_count store_buffering ≡ 8 }
     ensures first { choices store_buffering 1 ≡ initial_choice 7 ∷ [] }

@@ -28,7 +28,8 @@ use std::marker::Model;
 use std::snapshot::Snapshot;
 use trace_semantics::trace::Trace;
 
-/// The most operations of a trace that has a layout, which is the most that reduction keeps.
+/// The most operations of a trace that has a layout, which is the most that reduction keeps. The contracts of these files and of
+/// `clause_blocks` say 160 for it: by that the numbers of variables and clauses fit a `u32`.
 pub const MAX_LAYOUT_OPERATIONS: usize = 160;
 
 /// The owner of some variables: a reading operation, by its number, or a final value, by its place in the trace's list,
@@ -39,12 +40,17 @@ pub enum ReadsFromOwner {
     Final(usize),
 }
 
-/// The variables of a reduced trace, in tables. The trace itself is seen by clauses alone.
+/// The variables of a reduced trace, in tables. They are the numbers from 1 on without gaps: first the order variables, then the choice
+/// variables, operation by operation, and then the final variables. The trace itself is there for contracts alone, and has no bytes.
 pub struct Layout {
     trace: Snapshot<Trace>,
+    /// By the number of the operation, from 0.
     operations: Vec<OpVariables>,
+    /// In the order of the trace's final values.
     final_values: Vec<FinalTable>,
+    /// See `before`.
     before: Vec<(usize, usize)>,
+    /// The number of variables, which is the last one too.
     count: u32,
 }
 
@@ -112,7 +118,7 @@ impl Layout {
         self.final_values.get(k)
     }
 
-    /// The first operation of the process of an operation.
+    /// The first operation of the process of an operation. It stands for the process: two operations are of one process if it is the same.
     #[inline]
     fn leader(&self, i: usize) -> Option<usize>
         ensures { result ≡ tables.leader_at self.now i }
@@ -162,7 +168,7 @@ impl Layout {
         assignment.makes(&[self.order_lit(i, j)])
     }
 
-    /// Returns whether both are operations of one process.
+    /// Returns whether both are operations of one process. A number past the last operation is of none.
     #[inline]
     pub fn in_one_process(&self, i: usize, j: usize) -> bool
         ensures { result ≡ numbers.in_one_process self.now i j }
@@ -183,7 +189,8 @@ impl Layout {
         }
     }
 
-    /// The candidates of a reading operation with their variables, in order.
+    /// The candidates of a reading operation with their variables, in order: the initial value first, if it is one, and then writers by
+    /// rising number.
     pub fn choices(&self, r: usize) -> &[ReadsFromChoice]
         requires { IsSome (numbers.read_at self.now r) }
         ensures { result.now ≡ choice_variables.choices self.now r }

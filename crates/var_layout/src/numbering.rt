@@ -18,6 +18,7 @@ use trace_semantics::trace::{Process, Trace};
 #[derive(Drop)]
 struct NamedOp<'a> {
     process: &'a Name,
+    /// Counted from 1 within the process.
     place: u32,
     op: &'a Op,
 }
@@ -56,7 +57,7 @@ fn is_name_of(named: &NamedOp<'_>, name: &OpName) -> bool
     named.place == name.place && named.process.as_bytes() == name.process.as_bytes()
 }
 
-/// The operations of a trace, numbered from 0 by process and then place. The trace itself is seen by clauses alone.
+/// The operations of a trace, numbered from 0 by process and then place. The trace itself is there for contracts alone, and has no bytes.
 #[derive(Drop)]
 pub struct Numbering<'a> {
     trace: Snapshot<Trace>,
@@ -164,7 +165,7 @@ impl<'a> Numbering<'a> {
         }
     }
 
-    /// The value that the operation leaves at the location, if it writes there.
+    /// The value that the operation leaves at the location, if it writes there. Updates write too.
     pub fn left_at(&self, location: &[u8], i: usize) -> Option<u64>
         ensures { result ≡ number.left_at self.now location.now i }
     {

@@ -5,7 +5,8 @@ ghost use Rattle.var_layout.specs.OrderVariables as order;
 
 use dimacs::Lit;
 
-/// The variable that says that operation i stands before operation j, for i below j.
+/// The variable that says that operation i stands before operation j, for i below j. The pairs (0, 1), (0, 2), .., (1, 2), .. have the
+/// variables from 1 on in this order: `i * (2 * count - i - 1) / 2` pairs begin with an operation below i. At 160 operations the last is 12,720.
 #[inline]
 pub(crate) fn order_var(count: u32, i: u32, j: u32) -> u32
     requires apart { i < j }

@@ -41,7 +41,7 @@ fn value_from(
     }
 }
 
-/// Returns whether there is a value, and it is the one that is read.
+/// Returns whether there is a value, and it is the one that is read. If nothing is read (`read` is none), it is not.
 fn is_read(value: Option<u64>, read: Option<u64>) -> bool
     ensures { result ≡ candidates.is_read value read }
 {

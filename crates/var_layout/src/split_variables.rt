@@ -25,7 +25,7 @@ fn is_split(layout: &Layout, i: usize, j: usize) -> bool
     !layout.in_one_process(i, j) && (is_written_by(layout, i, j) || is_written_by(layout, j, i))
 }
 
-/// Puts the variables of the pairs that begin with operation i after the others.
+/// Puts the variables of the pairs in conflict that begin with operation i, the lower one, after the others.
 fn push_splits(variables: &mut Vec<u32>, layout: &Layout, i: usize) -> Result<(), AllocError>
     requires { i < operation_count layout.now }
     ensures { OnOk result (variables.new.items ≡ variables.old.items ++ split.splits_among layout.now (map (λ j. (i, j)) (numbers_above (operation_count layout.now) i))) }

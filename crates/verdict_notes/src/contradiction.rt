@@ -31,7 +31,7 @@ pub fn explain_by_survey<S: Surveyor>(
     Ok(())
 }
 
-/// Notes that a survey finds no core.
+/// Notes that a survey finds no core. A schedule that it says it found is none: the trace has no legal one.
 fn explain_no_core(notes: &mut Notes) {
     notes.note(&[b"a short survey finds no few operations that contradict each other"]);
 }

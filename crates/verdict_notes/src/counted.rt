@@ -73,7 +73,7 @@ impl<'t> CountedValue<'t> {
         false
     }
 
-    /// The balance, before the operations are counted.
+    /// The balance of what is no operation: the initial and the final value.
     fn outside_balance(self, trace: &Trace) -> Balance {
         Balance {
             updates: 0,
@@ -111,7 +111,8 @@ impl Balance {
         self.initials.saturating_add(self.writers)
     }
 
-    /// Returns whether some of those that need it have none.
+    /// Returns whether some of those that need it have none. Each source serves one of them, whatever the order is, so this rules out each
+    /// schedule.
     fn is_short(self) -> bool {
         self.needed() > self.sources()
     }
@@ -152,7 +153,7 @@ fn add_needed(sentence: &mut Sentence, balance: Balance) {
     sentence.add(&[words]);
 }
 
-/// Adds which sources there are, as `there are 2: the initial value, and 1 that is written`.
+/// Adds which sources there are, as `, and there are 2, the initial value and 1 that operations write`.
 fn add_sources(sentence: &mut Sentence, balance: Balance) {
     let words: &[u8] = if balance.sources() == 1 {
         b", and there is "
@@ -198,7 +199,7 @@ enum NamedRole {
     Writer,
 }
 
-/// Returns whether no operation of these leaves the value before one reads it.
+/// Returns whether no operation of these leaves the value before one reads it, or none does either.
 fn is_kept(short: CountedValue<'_>, later: &[Op]) -> bool {
     for op in later {
         if short.is_left_by(op) {
@@ -212,7 +213,7 @@ fn is_kept(short: CountedValue<'_>, later: &[Op]) -> bool {
 }
 
 impl NamedRole {
-    /// Returns whether the operation at this place has this role for the value.
+    /// Returns whether the operation at this place, counted from 0 among those of its process, has this role for the value.
     fn is_of(self, short: CountedValue<'_>, ops: &[Op], k: usize) -> bool {
         let (Some(op), Some(later)) = (ops.get(k), ops.get(k.saturating_add(1)..)) else {
             return false;

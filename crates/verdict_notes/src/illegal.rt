@@ -58,7 +58,8 @@ fn explain_place(
     sentence.note(notes);
 }
 
-/// Adds what is wrong with the name after the names before it.
+/// Adds what is wrong with the name after the names before it. The last two causes are of the schedule as a whole, and `explain_illegal` has
+/// noted them.
 fn add_cause(
     sentence: &mut Sentence,
     trace: &Trace,
@@ -135,7 +136,7 @@ fn add_wrong_read(sentence: &mut Sentence, trace: &Trace, before: &[OpName], nam
     sentence.add_held(held_after(trace, before, location));
 }
 
-/// Adds which operation has to come before it by a pair, or else by times.
+/// Adds which operation has to come before it by a pair, or else by times: for the judge both are one cause.
 fn add_broken(sentence: &mut Sentence, trace: &Trace, before: &[OpName], name: &OpName) {
     for pair in trace.before() {
         let first = pair.0.process.as_bytes();

@@ -75,7 +75,8 @@ fn repeats(earlier: &Op, op: &Op) -> bool {
     }
 }
 
-/// Returns whether the reduction leaves out the operation at this place of the process, counted from 0.
+/// Returns whether the reduction leaves out the operation at this place of the process, counted from 0. This is the rule of `reducer`, found
+/// again here for names alone. If the two differed, `open_cubes` would name wrong operations, or none if their number differed.
 fn is_left_out(trace: &Trace, process: &Process, k: usize) -> bool {
     let ops = process.operations.as_slice();
     if k == 0 || k >= ops.len() {

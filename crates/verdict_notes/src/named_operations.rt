@@ -55,7 +55,7 @@ pub fn count_of(names: &[OpName], process: &[u8]) -> usize {
     count
 }
 
-/// The number of a place that is counted from 0.
+/// The place, counted from 1 as in names, that is `k` counted from 0.
 pub fn place_after(k: usize) -> u64 {
     (k as u64).saturating_add(1)
 }

@@ -85,7 +85,7 @@ fn names_written<'t>(
     found
 }
 
-/// The locations that may be meant.
+/// The locations that may be meant. A location is not near itself, so it is never among them.
 fn names_near<'t>(
     trace: &'t Trace,
     wanted: WantedLocation<'_>,

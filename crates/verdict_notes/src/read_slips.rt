@@ -91,7 +91,7 @@ fn add_writer(sentence: &mut Sentence, trace: &Trace, places: &ShownPlaces, writ
     }
 }
 
-/// Adds who writes this, or else that it is an initial value.
+/// Adds who writes this, or else that it is an initial value. The caller has found that the trace has one of the two.
 fn add_origin(
     sentence: &mut Sentence,
     trace: &Trace,
@@ -150,7 +150,7 @@ fn note_near_value(
     sentence.note(notes);
 }
 
-/// Notes that one operation alone writes the value, to another location than this. The answer is whether it is so.
+/// Notes that one operation alone writes the value, to another location than this: if several do, none is plainly meant. The answer is whether it is so.
 fn note_only_writer(
     alloc: Global,
     notes: &mut Notes,
@@ -199,7 +199,8 @@ fn is_without_value(trace: &Trace, location: &[u8]) -> bool {
     wanted.found(trace).first().is_none()
 }
 
-/// The location that was probably meant in place of this one, where this value is read.
+/// The location that was probably meant in place of this one, where this value is read: a near one that gets the value, or any near one if
+/// this location gets no value at all, and so is perhaps no location.
 fn meant_location<'t>(trace: &'t Trace, location: &[u8], value: u64) -> Option<&'t [u8]> {
     let near = near_location_of(trace, location, value);
     if near.is_none() && is_without_value(trace, location) {

@@ -13,7 +13,8 @@ use trace_semantics::trace::Trace;
 
 /// The place under which each operation of a trace is named: its own, or, if the trace is a part of another one, its place in the whole.
 pub struct ShownPlaces {
-    // Where the operations of each process begin among the places. Both are empty if each has its own place.
+    // The numbers at which the operations of each process begin in `places`, by the order of the proc lines. Both are empty if each operation
+    // has its own place.
     starts: Vec<usize>,
     places: Vec<u64>,
 }
@@ -97,6 +98,7 @@ impl ShownPlaces {
                 };
                 shown.places.push(place)?;
             }
+            // Last, so that an operation has the place of the line directly above it, and of no other.
             place = place_in_comment(line, process);
             rest = after;
         }

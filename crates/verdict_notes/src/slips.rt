@@ -16,7 +16,7 @@ pub fn differ_by_case(first: &[u8], second: &[u8]) -> bool {
     true
 }
 
-/// The number of bytes with which both words begin.
+/// The number of bytes that both words have in common at their begin. What a slip is shows in the bytes behind them.
 fn common_front(first: &[u8], second: &[u8]) -> usize {
     for at in 0..first.len() {
         match second.get(at) {

@@ -80,7 +80,7 @@ fn explain_process<'t>(
     found
 }
 
-/// Notes how a location gets its initial value, if one of a value 0 is missing.
+/// Notes how a location gets its initial value, if one of a value 0 is missing. It is said once, of the last such location.
 fn advise_initial(notes: &mut Notes, bare: Option<&[u8]>) {
     if let Some(location) = bare {
         notes.note(&[

@@ -18,7 +18,8 @@ fn is_left(writers: &[ChosenWriter], value: u64) -> bool {
     false
 }
 
-/// Returns whether some order of the operations may leave the value at the location, which these write.
+/// Returns whether some order of the operations may leave the value at the location, which these write. No order is looked at, so
+/// any of them may be the last. The initial value is the final one only if none writes.
 pub fn may_be_final(trace: &Trace, writers: &[ChosenWriter], location: &[u8], value: u64) -> bool {
     if writers.is_empty() {
         return initial_value(trace, location) == Some(value);

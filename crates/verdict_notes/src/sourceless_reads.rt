@@ -158,6 +158,7 @@ impl<'t> PlacedRead<'t> {
         let location = self.op.location().as_bytes();
         match missing {
             MissingSource::Unwritten => {
+                // An update that leaves what it reads writes the value itself, and is no source of its own.
                 let words: &[u8] = if self.op.written_value() == self.op.value_read() {
                     b", which nothing else writes, and "
                 } else {

@@ -39,7 +39,7 @@ pub fn explain_undecided(
     Ok(())
 }
 
-/// The next budget to try.
+/// The next budget to try: the large one first, then ten times as much, up to what the option takes.
 fn next_budget(budget: u64) -> u64 {
     if budget < LARGE_BUDGET {
         LARGE_BUDGET

@@ -74,7 +74,7 @@ pub enum Fault {
 pub(crate) struct FaultLine {
     /// What refused.
     pub area: &'static str,
-    /// The number, where it is printed.
+    /// The number, where it is printed. Without it the line has the area alone, and neither the name nor a place.
     pub number: Option<u8>,
     /// The name.
     pub name: &'static str,
@@ -155,7 +155,7 @@ impl Fault {
         self.told().area
     }
 
-    /// Its number among the faults of its area. A fault of the device has none.
+    /// Its number among the faults of its area. A fault of the device has none. That memory ran out has number 1 in all areas, and it is not printed.
     pub fn number(&self) -> Option<u8>
         ensures { result ≡ number_of self.now }
     {

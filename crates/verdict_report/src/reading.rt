@@ -59,6 +59,7 @@ pub fn read_whole<S: Source>(alloc: Global, source: &mut S) -> Result<Vec<u8>, R
         if count == 0 {
             return Ok(text);
         }
+        // Asked before the bytes are taken, so the text is never past the limit, and the difference never below 0.
         if count > MAX_INPUT_BYTES - text.len() {
             return Err(ReadFault::TooLong);
         }

@@ -10,7 +10,7 @@ pub struct ShortSource<'a> {
     bytes: &'a [u8],
     place: usize,
     max_per_call: usize,
-    /// The number of calls that succeed before the one that fails, or `u64::MAX` if none is to fail.
+    /// The number of calls that succeed before the one that fails. Each of them takes one off, so a count that begins at `u64::MAX` never reaches 0.
     calls_before_failure: u64,
     is_at_end: bool,
     failures: FailureCount,

@@ -52,7 +52,9 @@ fn run_on_system<'x, R: Threads + Wait + Sync, O: Sink + Recalls, E: Sink>(
 }
 
 fn main(rt: HostRuntime) -> ExitCode {
+    // This comes first, before any file is opened, and has a name so that it is kept until `main` ends.
     let _held = HeldNumbers::take(&rt);
+    // The explanation reads the report that standard output took; of standard error nothing is recorded.
     let mut out = Recorder::keeping(rt.alloc(), StreamSink::new(rt.stdout()));
     let mut err = StreamSink::new(rt.stderr());
     let texts = match arguments(&rt) {

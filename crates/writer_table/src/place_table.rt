@@ -43,7 +43,7 @@ impl PlaceTable {
         }
     }
 
-    /// Makes room for the class.
+    /// Makes room for the class. Classes are numbered without gaps, so the rows are as many as the classes, and one for the number 0.
     fn reach(&mut self, alloc: Global, class: usize) -> Result<(), AllocError>
         ensures long { OnOk result (class < length self.new) }
         ensures same { OnOk result ((c : ℕ) → row self.new c ≡ row self.old c) }

@@ -29,7 +29,7 @@ impl Run {
     }
 }
 
-/// Appends the place to the last run, if that is of the process and goes no further, and returns whether it did.
+/// Appends the place to the last run, if that is of the process and has no larger place, and returns whether it did.
 fn extend_last(runs: &mut Vec<Run>, process: u32, place: u32) -> Result<bool, AllocError>
     ensures more { IfOk result (λ done. MatchBool done (HasOneMore runs.old.items runs.new.items process place) (runs.new.items ≡ runs.old.items)) }
     ensures past { IfOk result (λ done. done ≡ false → (k : ℕ) → k < place → AreUpTo runs.old.items process k → All (λ run. run.process < process) runs.old.items) }
@@ -42,7 +42,8 @@ fn extend_last(runs: &mut Vec<Run>, process: u32, place: u32) -> Result<bool, Al
     Ok(done)
 }
 
-/// Some operations: runs of places, one or more for each process that has any.
+/// Some operations: runs of places, one or more for each process that has any. If they are added by process and then by rising place, as `TraceWriters`
+/// does, each process has one.
 #[derive(Drop)]
 pub struct Runs {
     runs: Vec<Run>,

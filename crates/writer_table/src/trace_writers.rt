@@ -32,7 +32,7 @@ fn add_class(
     Ok(())
 }
 
-/// Adds the operations of a process that have a class.
+/// Adds the operations of a process that have a class. The classes are of its operations from the first on, whose place is 1.
 fn add_classes(
     alloc: Global,
     table: &mut PlaceTable,
@@ -111,7 +111,8 @@ impl<'a> TraceWriters<'a> {
         Ok(TraceWriters { classes, table })
     }
 
-    /// The operations that leave the value at the location; in a table by location, those that write the location.
+    /// The operations that leave the value at the location; in a table by location, those that write the location, whatever value is given. The runs
+    /// stand in the order of processes, one for each that has such an operation.
     pub fn runs(&self, location: &[u8], value: u64) -> &[Run]
         ensures { result.now ≡ runs_at self.now location.now value }
     {

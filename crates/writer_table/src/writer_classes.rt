@@ -9,6 +9,8 @@ use trace_semantics::operation::Op;
 pub struct WriterClasses<'a> {
     /// Whether classes are of values too.
     pub by_value: bool,
+    /// Numbers are counted from 1 in the order of first use. So no operation is in the class 0, and a location that none writes finds no operations there.
+    /// The value of a key is 0 in a table by location.
     numbers: HashMap<(&'a [u8], u64), usize>,
 }
 
@@ -28,7 +30,7 @@ impl<'a> WriterClasses<'a> {
         }
     }
 
-    /// The part of the value on which a class depends.
+    /// The part of the value on which a class depends: in a table by location all values of a location make one class.
     fn key(&self, value: u64) -> u64
         ensures { result ≡ (if self.now.by_value then value else 0) }
     {
