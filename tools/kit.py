@@ -12,3 +12,9 @@ def load():
     made = importlib.util.module_from_spec(importlib.util.spec_from_loader("rt", loader))
     loader.exec_module(made)
     return made
+
+
+def must_fail(rt, crate, edit, flags, kept=None):
+    """Whether the prover refuses the crate with this edit, and a line that says so. Kits answer the first by a Boolean, or by one of several words."""
+    answer, said = rt.must_fail(crate, edit, flags, kept)
+    return (answer if isinstance(answer, bool) else answer in (rt.REFUSED, rt.AT_LIMIT)), said
