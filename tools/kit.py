@@ -14,7 +14,20 @@ def load():
     return made
 
 
+# The status of a check in which the prover came to a limit.
+AT_LIMIT = 3
+
+
 def must_fail(rt, crate, edit, flags, kept=None):
-    """Whether the prover refuses the crate with this edit, and a line that says so. Kits answer the first by a Boolean, or by one of several words."""
+    """Whether the prover refuses the crate with this edit, and a line that says so.
+
+    Kits answer the first by a Boolean, or by one of several words. To those that know a Boolean alone an edit with which the prover comes to a limit has not
+    reached it: but the crate is not proved with it, so it is refused."""
     answer, said = rt.must_fail(crate, edit, flags, kept)
-    return (answer if isinstance(answer, bool) else answer in (rt.REFUSED, rt.AT_LIMIT)), said
+    if not isinstance(answer, bool):
+        return answer in (rt.REFUSED, rt.AT_LIMIT), said
+    if not answer and "it did not reach the prover" in said:
+        texts, _ = rt.read_edit(edit, crate.folder)
+        if rt.checked(crate, texts, flags, kept).returncode == AT_LIMIT:
+            return True, f"must-fail {crate.name}/{os.path.basename(edit)}: refused, as it must be: the prover comes to a limit"
+    return answer, said
