@@ -81,7 +81,7 @@ impl Trail {
         }
     }
 
-    /// Each variable is tried first with the value that it has here, 0 for true and 1 for false, or else as before.
+    /// Each variable is tried first with the value that it has here, 0 for true and 1 for false. Any other number leaves the variable as it is.
     pub fn try_first(&mut self, values: &[u8]) {
         for variable in 0..size(values) {
             let value = at(values, variable, 1);

@@ -106,7 +106,7 @@ impl<S: Learner + Drop> Attempt<S> {
 }
 
 impl<S: SharingLearner + Drop> Attempt<S> {
-    /// Returns the short clauses that the search has learned since it last gave some.
+    /// Returns the clauses that the search has learned since it last gave some, but for those that it gives to none.
     pub fn give(&mut self) -> SharedClauses
         ensures { self.new.log ≡ self.old.log }
     {

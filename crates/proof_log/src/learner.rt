@@ -40,7 +40,7 @@ pub trait Learner {
 
 /// A search that hands what it learns to others of the same formula, and takes in what they have learned. Nothing is promised of either.
 pub trait SharingLearner: Learner {
-    /// Returns the short clauses that were learned since the last call.
+    /// Returns the clauses that were learned since the last call, but for those that it gives to none.
     fn give(&mut self) -> SharedClauses;
 
     /// Backtracks to level 0, and adds these clauses, which follow from the formula. They have numbers of their own.

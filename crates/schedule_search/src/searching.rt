@@ -208,24 +208,19 @@ impl ScheduleSearch {
         }
         let places = EstimatedPlaces::of_equal_pace(alloc, order.log())?;
         let mut propagated = propagate_at_first(order)?;
-        match propagated {
-            Propagated::Conflict => {
-                self.core = core_of_conflict(alloc, order)?;
-                return Ok(SearchEnding::Refuted);
-            }
-            Propagated::Spent => {}
-            Propagated::Done => {
-                if self.has_too_few_sources(alloc, order)? {
-                    return Ok(SearchEnding::Refuted);
-                }
-            }
+        if propagated == Propagated::Done && self.has_too_few_sources(alloc, order)? {
+            return Ok(SearchEnding::Refuted);
         }
-        if !hint.is_empty() {
+        if propagated != Propagated::Conflict && !hint.is_empty() {
             if self.try_hint(alloc, order, hint)? {
                 return Ok(SearchEnding::Scheduled);
             }
             // The rows still have the guesses of the hint.
-            propagated = order.propagate_in_rounds()?;
+            propagated = propagate_at_first(order)?;
+        }
+        if propagated == Propagated::Conflict {
+            self.core = core_of_conflict(alloc, order)?;
+            return Ok(SearchEnding::Refuted);
         }
         if propagated == Propagated::Done {
             let found = self.walk_at_first(alloc, order, &places)?;

@@ -16,7 +16,11 @@ use total_tables::{at, put, size};
 
 /// Conflicts of the search of the first cube. Without it some traces with a schedule in that cube took three times as long: the search of the
 /// formula itself comes upon the same cube first, but by another course, which took far more conflicts.
-const FIRST_CUBE_CONFLICTS: u64 = 500;
+/// They are two turns, so sources are counted once more, or another course has a turn. With more of them the other threads would wait longer.
+const FIRST_CUBE_CONFLICTS: u64 = 1000;
+
+/// The most steps of a derivation by counting that is taken for the first cube.
+const FIRST_CUBE_STEPS: u64 = 2000;
 
 /// The activities of a search of fewer conflicts are not handed on: they say little. Those of others brought 41 traces without a schedule
 /// from 152 conflicts to 120 (geometric mean).
@@ -96,7 +100,7 @@ impl<'a> PreparedFormula<'a> {
         let cube = literals_of(alloc, codes)?;
         let id = self.id_in_cube(cube.len());
         let mut search = begin(alloc, self, cube.as_slice())?;
-        if let Some(counted) = search.count_sources(id, FIRST_CUBE_CONFLICTS)? {
+        if let Some(counted) = search.count_sources(id, FIRST_CUBE_STEPS)? {
             return self.enter(cube, counted);
         }
         let mut first = Attempt::new(alloc, search, id);

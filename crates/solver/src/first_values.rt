@@ -17,7 +17,7 @@ const NONE: u8 = 2;
 enum Change {
     /// Those of the longest trail since this was the change.
     Best,
-    /// Those with which a search begins.
+    /// True for the variables of the order and false for the others, as `Trail::new` has them.
     Begun,
     /// The opposite ones.
     Opposite,

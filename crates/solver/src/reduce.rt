@@ -19,8 +19,8 @@ pub const REDUCTION_GROWTH: u32 = 50;
 const TIER1_LBD: u32 = 2;
 
 impl<'a> Search<'a> {
-    /// Records that the stored clause whose literals begin at this offset was used in this conflict. It is asked of learned ones alone: their age
-    /// is a part of their scores.
+    /// Records that the stored clause whose literals begin at this offset was used in this conflict. What is recorded is looked at for learned ones
+    /// alone: their age is a part of their scores.
     pub(crate) fn note_use(&mut self, place: u32) {
         let clause = place.wrapping_sub(HEADER);
         self.store.set_used(clause, self.conflicts);

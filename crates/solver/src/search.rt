@@ -40,7 +40,7 @@ pub struct Search<'a> {
     pub(crate) leading: Vec<u32>,
     /// If it is there, decisions follow a schedule first.
     pub(crate) schedule: Option<ScheduleHeuristic>,
-    /// If they are there, decisions take these values first, and not the saved ones.
+    /// If they are there, decisions take their values, and the saved one of a variable for which they have none.
     pub(crate) first_values: Option<FirstValues>,
 
     // The conflict at hand.

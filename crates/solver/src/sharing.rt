@@ -19,14 +19,14 @@ const MAX_SHARED_LBD: u32 = 30;
 const MAX_SHARED_LITERALS: usize = 200;
 
 impl<'a> Search<'a> {
-    /// From now on this search keeps the short clauses that it learns, to give them to others.
+    /// From now on this search keeps what it learns, but for very long clauses, to give it to others.
     pub(crate) fn begin_to_share(&mut self) {
         if self.shared.is_none() {
             self.shared = Some(SharedClauses::new(self.alloc));
         }
     }
 
-    /// Keeps the last learned clause, which has this id and this LBD, if it is short and this search shares what it learns.
+    /// Keeps the last learned clause, which has this id and this LBD, unless it is very long or this search shares nothing.
     pub(crate) fn share(&mut self, id: u32, lbd: u32) -> Result<(), AllocError> {
         if lbd > MAX_SHARED_LBD || self.learned.len() > MAX_SHARED_LITERALS {
             return Ok(());

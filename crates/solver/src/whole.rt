@@ -15,7 +15,7 @@ use std::alloc::{AllocError, Global};
 /// A derivation that the formula itself has no model.
 #[derive(Drop)]
 pub(crate) struct WholeRefutation {
-    /// The most literals of a cube that it serves. It leaves room for them: its ids begin after theirs, and it cites none of them.
+    /// It serves cubes of at most this number of literals. Its ids begin after theirs, and it cites none of them.
     pub(crate) literals: usize,
     pub(crate) derivation: Derivation,
 }
