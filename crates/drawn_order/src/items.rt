@@ -65,7 +65,7 @@ fn value_item<'t>(
     }
 }
 
-/// Adds the boxes of the process's operations that are drawn, in program order, one below the other from row 0 on.
+/// Adds the boxes of the process's operations that are drawn, in program order, one below the other from the top of the picture on.
 fn add_process<'t>(
     items: &mut Vec<PictureItem<'t>>,
     process: &'t Process,

@@ -17,7 +17,7 @@ use crate::walk::{OrderStep, steps_of};
 use std::alloc::{AllocError, Global};
 use trace_semantics::trace::Trace;
 
-/// Returns the number of rows of each process: one more than its operations. Places count from 1, so row 0 is of no operation.
+/// Returns the number of rows of each process: one more than its operations. Places count from 1, so the first row is of no operation.
 fn row_counts(alloc: Global, trace: &Trace) -> Result<Vec<usize>, AllocError>
     requires trace { IsTrace trace.now }
     ensures { IfOk result (λ counts. counts.items ≡ map (λ (p : Listed). length p.operations + 1) trace.now.processes) }

@@ -80,7 +80,7 @@ impl OperationRow {
 /// The rows of one process by place.
 #[derive(Drop)]
 pub struct ProcessRows {
-    /// Row k is that of the operation at place k. Row 0 is of no operation, since places count from 1.
+    /// Row k is that of the operation at place k. The first row is of no operation, since places count from 1.
     rows: Vec<OperationRow>,
 }
 
@@ -163,7 +163,7 @@ impl OrderRows {
     ghost use Rattle.forced_order.specs.Rows.{HasRow, last_before};
     ghost use Rattle.forced_order.specs.declared.numbered.OperationNumber.{OperationNumber as Named};
 
-    /// Returns rows of zeros: for each process the number that is given. That is one more than its operations, since row 0 is of none.
+    /// Returns rows of zeros: for each process the number that is given. That is one more than its operations, since the first row is of none.
     pub fn zeros(alloc: Global, counts: &[usize]) -> Result<OrderRows, AllocError>
         ensures zero { IfOk result (λ rows. (n : Named) (q : ℕ) → last_before rows n q ≡ 0) }
         ensures rows { IfOk result (λ rows. (j k count : ℕ) → slice_get counts.now j ≡ Some count → k < count → HasRow rows (record { process = j; place = k })) }

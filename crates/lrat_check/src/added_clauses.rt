@@ -16,7 +16,7 @@ const ROWS_FOR_EACH: usize = 8;
 /// found in the time of a search in a tree, and the rows are at most a fixed multiple of the clauses that were added.
 #[derive(Drop)]
 pub struct AddedClauses<'a> {
-    /// The id of row 0. It stays as it is once there are rows, which never become fewer.
+    /// The id of the first row. It stays as it is once there are rows, which never become fewer.
     pub first: u64,
     /// The clause of the id `first + k` in row `k`, unless none was added, or it was removed, or it stands in the tree.
     pub rows: Vec<Option<&'a Clause>>,
