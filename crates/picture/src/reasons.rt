@@ -9,7 +9,7 @@ use note_text::{GrowingText, decimal};
 use std::alloc::{AllocError, Global};
 use trace_semantics::operation::{Op, Origin};
 
-/// The most sentences below a picture. Further ones are left out without a word, be it the one on the contradiction itself, which comes last.
+/// The most sentences of a part below a picture: of the reasons, and of the contradiction, which comes last. A line says how many more there are.
 const MOST_SENTENCES: usize = 20;
 
 /// The most sources that a sentence excludes one by one.
@@ -19,6 +19,10 @@ const MOST_NAMED: usize = 4;
 #[derive(Drop)]
 pub(crate) struct ReasonLines {
     pub lines: Vec<Vec<u8>>,
+    /// How many sentences the part that is being added still has room for.
+    room: usize,
+    /// How many of its sentences had no room.
+    left_out: u64,
 }
 
 /// What sentences are about.
@@ -281,12 +285,28 @@ impl Told<'_, '_> {
 }
 
 impl ReasonLines {
-    /// Adds a sentence, if there is room for one.
+    /// Adds a sentence, if its part has room for one.
     fn add(&mut self, sentence: GrowingText) -> Result<(), AllocError> {
         let line = sentence.into_whole()?;
-        if self.lines.len() < MOST_SENTENCES {
+        if self.room > 0 {
+            self.room = self.room.wrapping_sub(1);
             self.lines.push(line)?;
+        } else {
+            self.left_out = self.left_out.saturating_add(1);
         }
+        Ok(())
+    }
+
+    /// Ends a part: says how many of its sentences had no room, if any had none. The next part has room of its own.
+    fn end_part(&mut self, alloc: Global) -> Result<(), AllocError> {
+        if self.left_out > 0 {
+            let mut text = GrowingText::new(alloc);
+            let count = decimal(self.left_out);
+            text.add(&[b"and ", count.as_slice(), b" more, which are left out"]);
+            self.lines.push(text.into_whole()?)?;
+        }
+        self.room = MOST_SENTENCES;
+        self.left_out = 0;
         Ok(())
     }
 
@@ -335,9 +355,12 @@ impl ReasonLines {
         };
         let mut reasons = ReasonLines {
             lines: Vec::new(alloc),
+            room: MOST_SENTENCES,
+            left_out: 0,
         };
         reasons.add_sources(alloc, told)?;
         reasons.add_orders(alloc, told)?;
+        reasons.end_part(alloc)?;
         if found.has_cycle() {
             reasons.add(told.sentence_of_cycle(alloc)?)?;
         }
@@ -349,6 +372,7 @@ impl ReasonLines {
         if let Some(sentence) = told.sentence_of_shortage(alloc) {
             reasons.add(sentence)?;
         }
+        reasons.end_part(alloc)?;
         Ok(reasons)
     }
 

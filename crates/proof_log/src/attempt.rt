@@ -119,6 +119,13 @@ impl<S: SharingLearner + Drop> Attempt<S> {
     {
         self.search.take(clauses)
     }
+
+    /// From now on the search goes on in rounds with others. Its log stays as it is.
+    pub fn begin_rounds(&mut self)
+        ensures { self.new.log ≡ self.old.log }
+    {
+        self.search.begin_rounds();
+    }
 }
 
 /// Runs an attempt by turns, until it has an answer or has analysed `budget` conflicts and met one more. There are turns though nothing is

@@ -40,6 +40,9 @@ pub trait Learner {
 
 /// A search that hands what it learns to others of the same formula, and takes in what they have learned. Nothing is promised of either.
 pub trait SharingLearner: Learner {
+    /// From now on the search goes on in rounds, between which `give` and `take` are called.
+    fn begin_rounds(&mut self);
+
     /// Returns the clauses that were learned since the last call, but for those that it gives to none.
     fn give(&mut self) -> SharedClauses;
 

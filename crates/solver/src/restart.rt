@@ -8,6 +8,10 @@ pub const UNIT: u64 = 30;
 /// Unit of the restart interval along a schedule. It is shorter, since each restart there takes another way.
 pub const SHORT_UNIT: u64 = 10;
 
+/// Unit of the restart interval of searches that go on in rounds. What others have learned comes into play as decisions are made anew: for 28 traces without a
+/// schedule four searches took 785 thousand conflicts with a unit of 30, 718 with 4 and 678 with 2, and for 22 with one 528, 419 and 542.
+pub const ROUNDS_UNIT: u64 = 4;
+
 /// Returns term `place`, counted from 0, of Luby's sequence 1, 1, 2, 1, 1, 2, 4, .. If nothing is known of the distribution of run times,
 /// no other sequence is better by more than a constant factor (Luby, Sinclair and Zuckerman, "Optimal speedup of Las Vegas
 /// algorithms", 1993).

@@ -67,6 +67,9 @@ impl<'a> PreparedFormula<'a> {
             let search = self.begin_seat(alloc, number)?;
             seats.push(Attempt::new(alloc, search, next))?;
         }
+        for seat in seats.iter_mut() {
+            seat.begin_rounds();
+        }
         Ok(seats)
     }
 }

@@ -3,6 +3,7 @@
 //!
 //! A literal is given by its code: twice its variable, plus one if it is negative. So `^ 1` negates it, and `>> 1` gives its variable.
 
+use crate::restart::{ROUNDS_UNIT, Restarts};
 use crate::search::Search;
 use assignment_trail::{FALSE, OPEN, TRUE};
 use clause_database::{Reason, ReasonClause};
@@ -88,6 +89,10 @@ impl<'a> Search<'a> {
 }
 
 impl<'a> SharingLearner for Search<'a> {
+    fn begin_rounds(&mut self) {
+        self.restarts = Restarts::new(ROUNDS_UNIT);
+    }
+
     fn give(&mut self) -> SharedClauses {
         let nothing = SharedClauses::new(self.alloc);
         match self.shared.replace(nothing) {

@@ -26,13 +26,14 @@ fn open_to_write<R: Files<File = File>>(
         .map_err(|error| DeviceFailure::of(DeviceCall::Make, &error))
 }
 
-/// Empties the file. What has no length, as a pipe or a terminal, is left as it is.
+/// Empties the file. What has no length, as a pipe or a terminal, is left as it is. If nothing can be learned of the file, it is emptied too: else what it had
+/// before could stay unnoticed.
 fn empty(file: &File) -> Result<(), DeviceFailure> {
-    let has_length = match file.metadata() {
+    let may_have_length = match file.metadata() {
         Ok(metadata) => metadata.is_file(),
-        Err(_) => false,
+        Err(_) => true,
     };
-    if has_length {
+    if may_have_length {
         file.set_len(0)
             .map_err(|error| DeviceFailure::of(DeviceCall::Write, &error))
     } else {

@@ -91,6 +91,8 @@ impl Learner for Talker {
 }
 
 impl SharingLearner for Talker {
+    fn begin_rounds(&mut self) {}
+
     fn give(&mut self) -> SharedClauses {
         mem::replace(&mut self.given, SharedClauses::new(self.alloc))
     }
