@@ -16,8 +16,8 @@ use total_tables::{at, put, size};
 
 /// Conflicts of the search of the first cube. Without it some traces with a schedule in that cube took three times as long: the search of the
 /// formula itself comes upon the same cube first, but by another course, which took far more conflicts.
-/// They are two turns, so sources are counted once more, or another course has a turn. With more of them the other threads would wait longer.
-const FIRST_CUBE_CONFLICTS: u64 = 1000;
+/// They are a turn. With more of them the other threads would wait longer.
+const FIRST_CUBE_CONFLICTS: u64 = 500;
 
 /// The most steps of a derivation by counting that is taken for the first cube.
 const FIRST_CUBE_STEPS: u64 = 2000;
