@@ -25,7 +25,7 @@ pub struct OrderedTrail<'a> {
     pub candidates: Candidates,
 }
 
-/// Drops the tables, in one call at each exit of a function that owns an ordered trail.
+/// Drops the tables in one call. A derived `Drop` would drop each at every exit of a function that owns an ordered trail, which makes its proof longer.
 impl Drop for OrderedTrail<'_> {
     fn drop(self) {
         let OrderedTrail {

@@ -90,7 +90,7 @@ pub struct BeamSearch<'a> {
     most_placed: u32,
 }
 
-/// Drops each table, in one call for each exit of a function that owns a search.
+/// Drops each table in one call. A derived `Drop` would drop each at every exit of a function that owns a search, which makes its proof longer.
 impl Drop for BeamSearch<'_> {
     fn drop(self) {
         let BeamSearch {

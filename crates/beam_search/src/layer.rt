@@ -25,7 +25,7 @@ pub(crate) struct Layer {
     ways: Vec<Ways>,
 }
 
-/// Drops each table, in one call for each exit of a function that owns a layer.
+/// Drops each table in one call. A derived `Drop` would drop each at every exit of a function that owns a layer, which makes its proof longer.
 impl Drop for Layer {
     fn drop(self) {
         let Layer {

@@ -17,7 +17,7 @@ pub(crate) struct NextWriters {
     places: Vec<ProcessPlace>,
 }
 
-/// Drops the tables, in one call for each exit of a function that owns them.
+/// Drops the tables in one call. A derived `Drop` would drop each at every exit of a function that owns them, which makes its proof longer.
 impl Drop for NextWriters {
     fn drop(self) {
         let NextWriters {

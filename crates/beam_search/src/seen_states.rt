@@ -13,7 +13,7 @@ pub(crate) struct SeenStates {
     numbers: Vec<u32>,
 }
 
-/// Drops the tables, in one call for each exit of a function that owns them.
+/// Drops the tables in one call. A derived `Drop` would drop each at every exit of a function that owns them, which makes its proof longer.
 impl Drop for SeenStates {
     fn drop(self) {
         let SeenStates {

@@ -34,7 +34,7 @@ pub(crate) struct State {
     pub(crate) keeps_placed: bool,
 }
 
-/// Drops each table, in one call for each exit of a function that owns a state.
+/// Drops each table in one call. A derived `Drop` would drop each at every exit of a function that owns a state, which makes its proof longer.
 impl Drop for State {
     fn drop(self) {
         let State {

@@ -21,7 +21,7 @@ pub struct Certificate {
     pub sections: PlainList<Section>,
 }
 
-/// Drops the tree and the sections, in one call at each exit of a function that owns a certificate.
+/// Drops the tree and the sections in one call. A derived `Drop` would drop each at every exit of a function that owns a certificate, which makes its proof longer.
 impl Drop for Certificate {
     fn drop(self) {
         let Certificate {

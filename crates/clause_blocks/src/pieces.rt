@@ -33,7 +33,7 @@ pub(crate) struct Pieces {
     before: Vec<Clause>,
 }
 
-/// Drops the layout and the clauses, in one call at each exit of a function that owns pieces.
+/// Drops the layout and the clauses in one call. A derived `Drop` would drop each at every exit of a function that owns pieces, which makes its proof longer.
 impl Drop for Pieces {
     fn drop(self) {
         let Pieces {

@@ -26,7 +26,7 @@ pub struct TraceClauses {
     triples: TripleTable,
 }
 
-/// Drops the tables, in one call at each exit of a function that owns trace clauses.
+/// Drops the tables in one call. A derived `Drop` would drop each at every exit of a function that owns trace clauses, which makes its proof longer.
 impl Drop for TraceClauses {
     fn drop(self) {
         let TraceClauses {

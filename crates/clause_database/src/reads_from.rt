@@ -64,7 +64,7 @@ pub struct ReadsFromTable {
     last_writers: Vec<LastWriter>,
 }
 
-/// Drops the tables, in one call at each exit of a function that owns a table.
+/// Drops the tables in one call. A derived `Drop` would drop each at every exit of a function that owns a table, which makes its proof longer.
 impl Drop for ReadsFromTable {
     fn drop(self) {
         let ReadsFromTable {

@@ -53,7 +53,7 @@ pub struct ClosedRows {
     ceilings: Vec<RowEntry>,
 }
 
-/// Drops the tables, in one call at each exit of a function that owns rows.
+/// Drops the tables in one call. A derived `Drop` would drop each at every exit of a function that owns rows, which makes its proof longer.
 impl Drop for ClosedRows {
     fn drop(self) {
         let ClosedRows {

@@ -29,7 +29,7 @@ struct Sweep {
     passed: Vec<OperationId>,
 }
 
-/// Drops each table, in one call for each exit of a function that owns a sweep.
+/// Drops each table in one call. A derived `Drop` would drop each at every exit of a function that owns a sweep, which makes its proof longer.
 impl Drop for Sweep {
     fn drop(self) {
         let Sweep {

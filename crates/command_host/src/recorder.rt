@@ -131,6 +131,7 @@ impl Recalls for MemorySink {
     }
 }
 
+// A `ShortSink` takes few bytes at a time, but keeps all that it took.
 impl Recalls for ShortSink {
     fn recalled(&self) -> Option<&[u8]> {
         Some(self.as_slice())

@@ -83,7 +83,7 @@ pub struct Analysis {
     pub(crate) steps: u64,
 }
 
-/// Drops each table, in one call for each exit of a function that owns an analysis.
+/// Drops each table in one call. A derived `Drop` would drop each at every exit of a function that owns an analysis, which makes its proof longer.
 impl Drop for Analysis {
     fn drop(self) {
         let Analysis {

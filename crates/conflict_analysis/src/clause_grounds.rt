@@ -11,7 +11,7 @@ pub(crate) struct GroundLists<T: Copy> {
     ends: Vec<u32>,
 }
 
-/// Drops both tables, in one call for each exit of a function that owns lists.
+/// Drops both tables in one call. A derived `Drop` would drop each at every exit of a function that owns lists, which makes its proof longer.
 impl<T: Copy> Drop for GroundLists<T> {
     fn drop(self) {
         let GroundLists {
@@ -83,7 +83,7 @@ pub(crate) struct ClauseGrounds {
     is_whole: bool,
 }
 
-/// Drops each table, in one call for each exit of a function that owns grounds.
+/// Drops each table in one call. A derived `Drop` would drop each at every exit of a function that owns grounds, which makes its proof longer.
 impl Drop for ClauseGrounds {
     fn drop(self) {
         let ClauseGrounds {

@@ -69,7 +69,7 @@ pub struct LearnedClauses {
     gain: u64,
 }
 
-/// Drops each table, in one call for each exit of a function that owns clauses.
+/// Drops each table in one call. A derived `Drop` would drop each at every exit of a function that owns clauses, which makes its proof longer.
 impl Drop for LearnedClauses {
     fn drop(self) {
         let LearnedClauses {

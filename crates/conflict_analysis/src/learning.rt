@@ -13,7 +13,7 @@ pub struct Learning {
     pub analysis: Analysis,
 }
 
-/// Drops both, in one call for each exit of a function that owns them.
+/// Drops both in one call. A derived `Drop` would drop each at every exit of a function that owns them, which makes its proof longer.
 impl Drop for Learning {
     fn drop(self) {
         let Learning {

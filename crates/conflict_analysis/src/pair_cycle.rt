@@ -17,7 +17,7 @@ struct PassedFronts {
     fronts: Vec<ProcessPlace>,
 }
 
-/// Drops each table, in one call for each exit of a function that owns them.
+/// Drops each table in one call. A derived `Drop` would drop each at every exit of a function that owns them, which makes its proof longer.
 impl Drop for PassedFronts {
     fn drop(self) {
         let PassedFronts {

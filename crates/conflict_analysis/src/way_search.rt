@@ -39,7 +39,7 @@ pub struct WaySearch {
     steps: u64,
 }
 
-/// Drops each table, in one call for each exit of a function that owns a search.
+/// Drops each table in one call. A derived `Drop` would drop each at every exit of a function that owns a search, which makes its proof longer.
 impl Drop for WaySearch {
     fn drop(self) {
         let WaySearch {

@@ -31,7 +31,7 @@ pub struct Elimination {
     clauses: Vec<u32>,
 }
 
-/// Drops the tables, in one call at each exit of a function that owns an elimination.
+/// Drops the tables in one call. A derived `Drop` would drop each at every exit of a function that owns an elimination, which makes its proof longer.
 impl Drop for Elimination {
     fn drop(self) {
         let Elimination {

@@ -27,7 +27,7 @@ pub struct CountRow {
     one_fewer: Grid<ShortClause>,
 }
 
-/// Drops the tables, in one call at each exit of a function that owns a row.
+/// Drops the tables in one call. A derived `Drop` would drop each at every exit of a function that owns a row, which makes its proof longer.
 impl Drop for CountRow {
     fn drop(self) {
         let CountRow {

@@ -16,7 +16,7 @@ pub struct Tree {
     nodes: Vec<Node>,
 }
 
-/// Drops the nodes, in one call at each exit of a function that owns a tree.
+/// Drops the nodes in one call. A derived `Drop` would drop each at every exit of a function that owns a tree, which makes its proof longer.
 impl Drop for Tree {
     fn drop(self) {
         let Tree { nodes: _nodes } = self;

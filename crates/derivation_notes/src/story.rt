@@ -12,7 +12,7 @@ pub struct Story<'t> {
     notes: Notes,
 }
 
-/// Drops the tables, in one call at each exit of a function that owns a story.
+/// Drops the tables in one call. A derived `Drop` would drop each at every exit of a function that owns a story, which makes its proof longer.
 impl Drop for Story<'_> {
     fn drop(self) {
         let Story {

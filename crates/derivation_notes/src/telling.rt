@@ -70,7 +70,7 @@ pub struct Teller<'t> {
     said: Vec<(usize, usize)>,
 }
 
-/// Drops the tables, in one call at each exit of a function that owns a teller.
+/// Drops the tables in one call. A derived `Drop` would drop each at every exit of a function that owns a teller, which makes its proof longer.
 impl Drop for Teller<'_> {
     fn drop(self) {
         let Teller {

@@ -12,7 +12,7 @@ pub struct Assignment {
     values: Vec<bool>,
 }
 
-/// Drops the values, in one call at each exit of a function that owns an assignment.
+/// Drops the values in one call. A derived `Drop` would drop each at every exit of a function that owns an assignment, which makes its proof longer.
 impl Drop for Assignment {
     fn drop(self) {
         let Assignment { values: _values } = self;

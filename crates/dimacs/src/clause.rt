@@ -15,7 +15,7 @@ pub struct Clause {
     literals: SmallVec<Lit, INLINE>,
 }
 
-/// Drops the literals, in one call at each exit of a function that owns a clause.
+/// Drops the literals in one call. A derived `Drop` would drop each at every exit of a function that owns a clause, which makes its proof longer.
 impl Drop for Clause {
     fn drop(self) {
         let Clause {

@@ -19,7 +19,7 @@ pub struct Cube {
     literals: SmallVec<Lit, MAX_CUBE_LITERALS>,
 }
 
-/// Drops the literals, in one call at each exit of a function that owns a cube.
+/// Drops the literals in one call. A derived `Drop` would drop each at every exit of a function that owns a cube, which makes its proof longer.
 impl Drop for Cube {
     fn drop(self) {
         let Cube {

@@ -17,7 +17,7 @@ pub(crate) struct HiddenSources {
     pub is_open: bool,
 }
 
-/// Drops the lists, in one call at each exit of a function that owns hidden sources.
+/// Drops the lists in one call. A derived `Drop` would drop each at every exit of a function that owns hidden sources, which makes its proof longer.
 impl Drop for HiddenSources {
     fn drop(self) {
         let HiddenSources {

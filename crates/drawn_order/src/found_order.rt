@@ -98,7 +98,7 @@ pub struct FoundOrder {
     pub shortage: Option<Shortage>,
 }
 
-/// Drops the tables, in one call at each exit of a function that owns an order.
+/// Drops the tables in one call. A derived `Drop` would drop each at every exit of a function that owns an order, which makes its proof longer.
 impl Drop for FoundOrder {
     fn drop(self) {
         let FoundOrder {

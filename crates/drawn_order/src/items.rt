@@ -104,7 +104,7 @@ pub fn count_rows(items: &[PictureItem<'_>]) -> usize {
     count
 }
 
-/// The number of boxes that are operations that the picture is of.
+/// The number of boxes that are operations that the picture is of, which its title says. Those beside them are there only for what they exclude.
 pub fn count_operations(items: &[PictureItem<'_>]) -> u64 {
     let mut count: u64 = 0;
     for item in items {

@@ -25,7 +25,7 @@ pub struct DrawnPart<'t> {
     unseen: Vec<usize>,
 }
 
-/// Drops the lists, in one call at each exit of a function that owns a part.
+/// Drops the lists in one call. A derived `Drop` would drop each at every exit of a function that owns a part, which makes its proof longer.
 impl Drop for DrawnPart<'_> {
     fn drop(self) {
         let DrawnPart {

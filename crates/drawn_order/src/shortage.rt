@@ -15,7 +15,7 @@ pub struct Shortage {
     giving: Vec<bool>,
 }
 
-/// Drops the lists, in one call at each exit of a function that owns a shortage.
+/// Drops the lists in one call. A derived `Drop` would drop each at every exit of a function that owns a shortage, which makes its proof longer.
 impl Drop for Shortage {
     fn drop(self) {
         let Shortage {

@@ -18,7 +18,7 @@ pub(crate) struct PlacedTrace {
     pub places: ShownPlaces,
 }
 
-/// Drops the trace and the places, in one call at each exit of a function that owns them.
+/// Drops the trace and the places in one call. A derived `Drop` would drop each at every exit of a function that owns them, which makes its proof longer.
 impl Drop for PlacedTrace {
     fn drop(self) {
         let PlacedTrace {

@@ -18,7 +18,7 @@ pub struct CountChanges {
     less: LiteralCounts,
 }
 
-/// Drops the counts, in one call at each exit of a function that owns changes.
+/// Drops the counts in one call. A derived `Drop` would drop each at every exit of a function that owns changes, which makes its proof longer.
 impl Drop for CountChanges {
     fn drop(self) {
         let CountChanges {

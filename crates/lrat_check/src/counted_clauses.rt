@@ -19,7 +19,7 @@ pub struct CountedClauses<'a> {
     changes: Option<CountChanges>,
 }
 
-/// Drops the tables, in one call at each exit of a function that owns counted clauses.
+/// Drops the tables in one call. A derived `Drop` would drop each at every exit of a function that owns counted clauses, which makes its proof longer.
 impl Drop for CountedClauses<'_> {
     fn drop(self) {
         let CountedClauses {

@@ -25,7 +25,7 @@ pub enum Step {
     },
 }
 
-/// Drops the clause and hints, or the ids, in one call at each exit of a function that owns a step.
+/// Drops the clause and hints, or the ids in one call. A derived `Drop` would drop each at every exit of a function that owns a step, which makes its proof longer.
 impl Drop for Step {
     fn drop(self) {
         match self {
@@ -47,7 +47,7 @@ pub struct Derivation {
     steps: Vec<Step>,
 }
 
-/// Drops the steps, in one call at each exit of a function that owns a derivation.
+/// Drops the steps in one call. A derived `Drop` would drop each at every exit of a function that owns a derivation, which makes its proof longer.
 impl Drop for Derivation {
     fn drop(self) {
         let Derivation { steps: _steps } = self;

@@ -24,7 +24,7 @@ pub enum NumberList {
     Long(Vec<i64>),
 }
 
-/// Drops the numbers, in one call at each exit of a function that owns a list of them.
+/// Drops the numbers in one call. A derived `Drop` would drop each at every exit of a function that owns a list of them, which makes its proof longer.
 impl Drop for NumberList {
     fn drop(self) {
         match self {
@@ -41,7 +41,7 @@ pub struct Hints {
     numbers: NumberList,
 }
 
-/// Drops the numbers, in one call at each exit of a function that owns hints.
+/// Drops the numbers in one call. A derived `Drop` would drop each at every exit of a function that owns hints, which makes its proof longer.
 impl Drop for Hints {
     fn drop(self) {
         let Hints { numbers: _numbers } = self;

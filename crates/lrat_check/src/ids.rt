@@ -14,7 +14,7 @@ pub struct Ids {
     ids: ShortList<u64, INLINE>,
 }
 
-/// Drops the ids, in one call at each exit of a function that owns a list of them.
+/// Drops the ids in one call. A derived `Drop` would drop each at every exit of a function that owns a list of them, which makes its proof longer.
 impl Drop for Ids {
     fn drop(self) {
         let Ids { ids: _ids } = self;

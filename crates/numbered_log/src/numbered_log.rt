@@ -68,7 +68,7 @@ pub struct NumberedLog {
     pairs: Vec<NumberedPair>,
 }
 
-/// Drops the tables, in one call at each exit of a function that owns a log.
+/// Drops the tables in one call. A derived `Drop` would drop each at every exit of a function that owns a log, which makes its proof longer.
 impl Drop for NumberedLog {
     fn drop(self) {
         let NumberedLog {

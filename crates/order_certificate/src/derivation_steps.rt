@@ -22,7 +22,7 @@ pub(crate) struct DerivationSteps {
     hint_ends: Vec<u32>,
 }
 
-/// Drops each table, in one call for each exit of a function that owns steps.
+/// Drops each table in one call. A derived `Drop` would drop each at every exit of a function that owns steps, which makes its proof longer.
 impl Drop for DerivationSteps {
     fn drop(self) {
         let DerivationSteps {

@@ -62,7 +62,7 @@ pub(crate) struct Explanation {
     pub(crate) looked: u64,
 }
 
-/// Drops each table, in one call for each exit of a function that owns explanations.
+/// Drops each table in one call. A derived `Drop` would drop each at every exit of a function that owns explanations, which makes its proof longer.
 impl Drop for Explanation {
     fn drop(self) {
         let Explanation {

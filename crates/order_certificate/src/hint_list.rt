@@ -14,7 +14,7 @@ pub(crate) struct HintList {
     turn: u32,
 }
 
-/// Drops each table, in one call for each exit of a function that owns a list.
+/// Drops each table in one call. A derived `Drop` would drop each at every exit of a function that owns a list, which makes its proof longer.
 impl Drop for HintList {
     fn drop(self) {
         let HintList {

@@ -16,7 +16,7 @@ pub(crate) struct MarkedPairs {
     highest: u32,
 }
 
-/// Drops each table, in one call for each exit of a function that owns them.
+/// Drops each table in one call. A derived `Drop` would drop each at every exit of a function that owns them, which makes its proof longer.
 impl Drop for MarkedPairs {
     fn drop(self) {
         let MarkedPairs {

@@ -42,7 +42,7 @@ struct NeededParts {
     line_numbers: Vec<u32>,
 }
 
-/// Drops each table, in one call for each exit of a function that owns them.
+/// Drops each table in one call. A derived `Drop` would drop each at every exit of a function that owns them, which makes its proof longer.
 impl Drop for NeededParts {
     fn drop(self) {
         let NeededParts {

@@ -47,7 +47,7 @@ pub(crate) struct OrderFacts {
     turn: u32,
 }
 
-/// Drops each table, in one call for each exit of a function that owns facts.
+/// Drops each table in one call. A derived `Drop` would drop each at every exit of a function that owns facts, which makes its proof longer.
 impl Drop for OrderFacts {
     fn drop(self) {
         let OrderFacts {

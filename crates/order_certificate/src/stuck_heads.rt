@@ -19,7 +19,7 @@ pub(crate) struct StuckHeads {
     looked: u64,
 }
 
-/// Drops both tables, in one call for each exit of a function that owns them.
+/// Drops both tables in one call. A derived `Drop` would drop each at every exit of a function that owns them, which makes its proof longer.
 impl Drop for StuckHeads {
     fn drop(self) {
         let StuckHeads {

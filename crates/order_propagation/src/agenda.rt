@@ -23,7 +23,7 @@ pub struct Agenda {
     count: u32,
 }
 
-/// Drops each table, in one call for each exit of a function that owns an agenda.
+/// Drops each table in one call. A derived `Drop` would drop each at every exit of a function that owns an agenda, which makes its proof longer.
 impl Drop for Agenda {
     fn drop(self) {
         let Agenda {

@@ -55,7 +55,7 @@ pub struct Propagation<'a> {
     pub(crate) reach: Reach,
 }
 
-/// Drops each table, in one call for each exit of a function that owns an order.
+/// Drops each table in one call. A derived `Drop` would drop each at every exit of a function that owns an order, which makes its proof longer.
 impl Drop for Propagation<'_> {
     fn drop(self) {
         let Propagation {
@@ -387,7 +387,8 @@ impl<'a> Propagation<'a> {
         self.store(first, second, PairReason::Guessed)
     }
 
-    /// Has no reader wait: after a conflict their turn would be spent on rows that are taken back.
+    /// Has no reader wait: after a conflict their turn would be spent on rows that are taken back. Walks call it before they learn from a conflict, and learned
+    /// clauses when one of them is false: such a conflict need not be one of `propagate`, which has none wait either when it meets one.
     pub fn forget_waiting(&mut self) {
         self.agenda.clear();
     }

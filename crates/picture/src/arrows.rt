@@ -27,7 +27,7 @@ pub(crate) struct ArrowPage<'p, 't> {
     pub is_schedule: bool,
 }
 
-/// Drops the counters, in one call at each exit of a function that owns a page.
+/// Drops the counters in one call. A derived `Drop` would drop each at every exit of a function that owns a page, which makes its proof longer.
 impl Drop for ArrowPage<'_, '_> {
     fn drop(self) {
         let ArrowPage {

@@ -30,7 +30,8 @@ const PROGRESS: u64 = 2000;
 
 const PROGRESS_LENGTH: u32 = 4096;
 
-/// The cost of an estimated place in a log of this number of operations.
+/// The cost of an estimated place in a log of this number of operations. It is below 2^32, as the place is one of the log, so the mask changes nothing; without it
+/// the cast from 64 bits without a sign would have to be shown to fit.
 fn cost_of_place(estimate: u32, count: u32) -> i64 {
     let length = count.min(PROGRESS_LENGTH);
     if length == 0 {
@@ -96,7 +97,8 @@ impl PlacingWalk {
         worth.wrapping_sub(cost_of_place(estimate, log.count()))
     }
 
-    /// The cost of a plain write over what its location holds, since updates may need all writes of that value which are left.
+    /// The cost of a plain write over what its location holds, since updates may need all writes of that value which are left. The mask is that of
+    /// `cost_of_place`.
     fn cost_of_loss(&self, operation: Operation) -> i64 {
         if operation.reads {
             return 0;

@@ -33,7 +33,7 @@ pub(crate) struct PlacedMemory {
     spare: SpareValues,
 }
 
-/// Drops each table, in one call for each exit of a function that owns it.
+/// Drops each table in one call. A derived `Drop` would drop each at every exit of a function that owns it, which makes its proof longer.
 impl Drop for PlacedMemory {
     fn drop(self) {
         let PlacedMemory {

@@ -58,7 +58,7 @@ pub struct PlacingWalk {
     most_placed: u32,
 }
 
-/// Drops each table, in one call for each exit of a function that owns a walk.
+/// Drops each table in one call. A derived `Drop` would drop each at every exit of a function that owns a walk, which makes its proof longer.
 impl Drop for PlacingWalk {
     fn drop(self) {
         let PlacingWalk {

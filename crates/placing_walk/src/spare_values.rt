@@ -19,7 +19,7 @@ pub(crate) struct SpareValues {
     initial_classes: Vec<ClassId>,
 }
 
-/// Drops each table, in one call for each exit of a function that owns them.
+/// Drops each table in one call. A derived `Drop` would drop each at every exit of a function that owns them, which makes its proof longer.
 impl Drop for SpareValues {
     fn drop(self) {
         let SpareValues {

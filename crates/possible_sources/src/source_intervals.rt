@@ -93,7 +93,7 @@ pub struct SourceIntervals {
     losses: Vec<SourceLoss>,
 }
 
-/// Drops each table, in one call for each exit of a function that owns sources.
+/// Drops each table in one call. A derived `Drop` would drop each at every exit of a function that owns sources, which makes its proof longer.
 impl Drop for SourceIntervals {
     fn drop(self) {
         let SourceIntervals {

@@ -37,7 +37,7 @@ pub struct ProofLog {
     ends: Vec<End>,
 }
 
-/// Drops the tables, in one call at each exit of a function that owns a log.
+/// Drops the tables in one call. A derived `Drop` would drop each at every exit of a function that owns a log, which makes its proof longer.
 impl Drop for ProofLog {
     fn drop(self) {
         let ProofLog {

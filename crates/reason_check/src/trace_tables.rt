@@ -18,7 +18,8 @@ pub struct TraceTables<'a> {
     pub writers: WriterTables<'a>,
 }
 
-/// The tables of the trace.
+/// The tables of the trace, which a check makes once for all lines. Nothing is promised of the places of the before pairs: who relies on one looks at the
+/// trace's list again.
 pub fn tables_of<'a>(alloc: Global, trace: &'a Trace) -> Result<TraceTables<'a>, AllocError>
     ensures operations { IfOk result (λ tables. tables.operations.trace.now ≡ trace.now) }
     ensures holds { IfOk result (λ tables. HoldsTrace tables.operations) }

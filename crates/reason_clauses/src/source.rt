@@ -1,4 +1,8 @@
-//! The clause that a reading operation has a source.
+//! The clause that a reading operation has a source. It says: one of the orders that would bar all of its possible sources does not hold.
+//!
+//! A source is barred if it stands behind the reader, or if a *witness* stands between them: another operation that writes the location, or reads another value there,
+//! behind which no operation reads the value of the source. The *pieces* of a line say how the sources of each process are barred, stretch by stretch, and the *main piece*
+//! how all others are.
 
 ghost use Rattle.std.specs.Prelude.{◌≡◌, ◌≤◌, true, ℕ, Some, None, List, IfSome, OnOk, IfErr};
 ghost use Rattle.std.specs.List.{All, Contains};

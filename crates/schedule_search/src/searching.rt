@@ -50,7 +50,7 @@ pub struct ScheduleSearch {
     most_placed: u32,
 }
 
-/// Drops each table, in one call for each exit of a function that owns a search.
+/// Drops each table in one call. A derived `Drop` would drop each at every exit of a function that owns a search, which makes its proof longer.
 impl Drop for ScheduleSearch {
     fn drop(self) {
         let ScheduleSearch {

@@ -38,7 +38,7 @@ struct SourceAssignment {
     steps: u64,
 }
 
-/// Drops each table, in one call for each exit of a function that owns a assignment.
+/// Drops each table in one call. A derived `Drop` would drop each at every exit of a function that owns a assignment, which makes its proof longer.
 impl Drop for SourceAssignment {
     fn drop(self) {
         let SourceAssignment {

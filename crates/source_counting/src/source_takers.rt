@@ -17,7 +17,7 @@ pub(crate) struct LastInProcess {
     writers: Vec<OperationId>,
 }
 
-/// Drops both tables, in one call for each exit of a function that owns them.
+/// Drops both tables in one call. A derived `Drop` would drop each at every exit of a function that owns them, which makes its proof longer.
 impl Drop for LastInProcess {
     fn drop(self) {
         let LastInProcess {

@@ -15,7 +15,7 @@ pub struct HallViolator {
     choices: Grid<u32>,
 }
 
-/// Drops the tables, in one call at each exit of a function that owns a violator.
+/// Drops the tables in one call. A derived `Drop` would drop each at every exit of a function that owns a violator, which makes its proof longer.
 impl Drop for HallViolator {
     fn drop(self) {
         let HallViolator {

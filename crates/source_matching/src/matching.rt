@@ -26,7 +26,7 @@ pub struct Matching {
     left_over: Vec<u32>,
 }
 
-/// Drops the tables, in one call at each exit of a function that owns a matching.
+/// Drops the tables in one call. A derived `Drop` would drop each at every exit of a function that owns a matching, which makes its proof longer.
 impl Drop for Matching {
     fn drop(self) {
         let Matching {

@@ -76,7 +76,7 @@ pub struct MatchingInstance {
     sources: u32,
 }
 
-/// Drops the tables, in one call at each exit of a function that owns an instance.
+/// Drops the tables in one call. A derived `Drop` would drop each at every exit of a function that owns an instance, which makes its proof longer.
 impl Drop for MatchingInstance {
     fn drop(self) {
         let MatchingInstance {

@@ -21,7 +21,7 @@ pub struct GivenOrder<'a> {
     is_cyclic: bool,
 }
 
-/// Drops each table, in one call for each exit of a function that owns an order.
+/// Drops each table in one call. A derived `Drop` would drop each at every exit of a function that owns an order, which makes its proof longer.
 impl Drop for GivenOrder<'_> {
     fn drop(self) {
         let GivenOrder {

@@ -15,7 +15,7 @@ pub struct ReducedLog {
     numbers: Vec<OperationId>,
 }
 
-/// Drops both tables, in one call for each exit of a function that owns a log.
+/// Drops both tables in one call. A derived `Drop` would drop each at every exit of a function that owns a log, which makes its proof longer.
 impl Drop for ReducedLog {
     fn drop(self) {
         let ReducedLog {

@@ -79,7 +79,7 @@ pub struct LogPart {
     pub numbers: Vec<OperationId>,
 }
 
-/// Drops each table, in one call for each exit of a function that owns a part.
+/// Drops each table in one call. A derived `Drop` would drop each at every exit of a function that owns a part, which makes its proof longer.
 impl Drop for LogPart {
     fn drop(self) {
         let LogPart {
@@ -101,7 +101,7 @@ struct Renaming {
     is_written: Vec<bool>,
 }
 
-/// Drops each table, in one call for each exit of a function that owns a renaming.
+/// Drops each table in one call. A derived `Drop` would drop each at every exit of a function that owns a renaming, which makes its proof longer.
 impl Drop for Renaming {
     fn drop(self) {
         let Renaming {

@@ -23,7 +23,7 @@ struct OperationTimes {
     has_any: bool,
 }
 
-/// Drops both tables, in one call for each exit of a function that owns times.
+/// Drops both tables in one call. A derived `Drop` would drop each at every exit of a function that owns times, which makes its proof longer.
 impl Drop for OperationTimes {
     fn drop(self) {
         let OperationTimes {
@@ -137,7 +137,7 @@ struct EndedFronts {
     covered: u64,
 }
 
-/// Drops both tables, in one call for each exit of a function that owns fronts.
+/// Drops both tables in one call. A derived `Drop` would drop each at every exit of a function that owns fronts, which makes its proof longer.
 impl Drop for EndedFronts {
     fn drop(self) {
         let EndedFronts {

@@ -24,7 +24,7 @@ pub struct Left {
     ops: Vec<Op>,
 }
 
-/// Drops the places and the operations, in one call at each exit of a function that owns what is left.
+/// Drops the places and the operations in one call. A derived `Drop` would drop each at every exit of a function that owns what is left, which makes its proof longer.
 impl Drop for Left {
     fn drop(self) {
         let Left {

@@ -28,7 +28,7 @@ pub struct TracePart {
     left: Vec<Left>,
 }
 
-/// Drops the trace and what is left, in one call at each exit of a function that owns a part.
+/// Drops the trace and what is left in one call. A derived `Drop` would drop each at every exit of a function that owns a part, which makes its proof longer.
 impl Drop for TracePart {
     fn drop(self) {
         let TracePart {

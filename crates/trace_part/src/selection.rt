@@ -15,7 +15,7 @@ pub struct Selection<'a> {
     pub writers: WriterTable<'a>,
 }
 
-/// Drops the tables, in one call at each exit of a function that owns a selection.
+/// Drops the tables in one call. A derived `Drop` would drop each at every exit of a function that owns a selection, which makes its proof longer.
 impl Drop for Selection<'_> {
     fn drop(self) {
         let Selection {

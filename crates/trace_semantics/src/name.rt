@@ -17,7 +17,7 @@ pub struct Name {
     bytes: ShortList<u8, INLINE>,
 }
 
-/// Drops the bytes, in one call at each exit of a function that owns a name.
+/// Drops the bytes in one call. A derived `Drop` would drop each at every exit of a function that owns a name, which makes its proof longer.
 impl Drop for Name {
     fn drop(self) {
         let Name { bytes: _bytes } = self;

@@ -8,7 +8,7 @@ pub struct OpName {
     pub place: u32,
 }
 
-/// Drops the process's name, in one call at each exit of a function that owns the name of an operation.
+/// Drops the process's name in one call. A derived `Drop` would drop each at every exit of a function that owns the name of an operation, which makes its proof longer.
 impl Drop for OpName {
     fn drop(self) {
         let OpName {
@@ -28,7 +28,7 @@ pub enum Origin {
     Operation(OpName),
 }
 
-/// Drops the operation's name, in one call at each exit of a function that owns an origin.
+/// Drops the operation's name in one call. A derived `Drop` would drop each at every exit of a function that owns an origin, which makes its proof longer.
 impl Drop for Origin {
     fn drop(self) {
         match self {
@@ -71,7 +71,7 @@ pub enum Op {
     },
 }
 
-/// Drops the names, in one call at each exit of a function that owns an operation.
+/// Drops the names in one call. A derived `Drop` would drop each at every exit of a function that owns an operation, which makes its proof longer.
 impl Drop for Op {
     fn drop(self) {
         match self {

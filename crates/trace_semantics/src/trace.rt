@@ -9,7 +9,7 @@ pub struct Operations {
     ops: Vec<Op>,
 }
 
-/// Drops the operations, in one call at each exit of a function that owns a list of them.
+/// Drops the operations in one call. A derived `Drop` would drop each at every exit of a function that owns a list of them, which makes its proof longer.
 impl Drop for Operations {
     fn drop(self) {
         let Operations { ops: _ops } = self;
@@ -49,7 +49,7 @@ pub struct Process {
     pub operations: Operations,
 }
 
-/// Drops the name and the operations, in one call at each exit of a function that owns a process.
+/// Drops the name and the operations in one call. A derived `Drop` would drop each at every exit of a function that owns a process, which makes its proof longer.
 impl Drop for Process {
     fn drop(self) {
         let Process {
@@ -70,7 +70,7 @@ pub struct Trace {
     before: Vec<(OpName, OpName)>,
 }
 
-/// Drops the lists, in one call at each exit of a function that owns a trace.
+/// Drops the lists in one call. A derived `Drop` would drop each at every exit of a function that owns a trace, which makes its proof longer.
 impl Drop for Trace {
     fn drop(self) {
         let Trace {

@@ -34,7 +34,7 @@ pub struct Seen<'a> {
     location_count: usize,
 }
 
-/// Drops the tables, in one call at each exit of a function that owns them.
+/// Drops the tables in one call. A derived `Drop` would drop each at every exit of a function that owns them, which makes its proof longer.
 impl Drop for Seen<'_> {
     fn drop(self) {
         let Seen {

@@ -54,7 +54,7 @@ pub struct Layout {
     count: u32,
 }
 
-/// Drops the tables, in one call at each exit of a function that owns a layout.
+/// Drops the tables in one call. A derived `Drop` would drop each at every exit of a function that owns a layout, which makes its proof longer.
 impl Drop for Layout {
     fn drop(self) {
         let Layout {

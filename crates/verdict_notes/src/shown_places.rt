@@ -19,7 +19,7 @@ pub struct ShownPlaces {
     places: Vec<u64>,
 }
 
-/// Drops the tables, in one call at each exit of a function that owns them.
+/// Drops the tables in one call. A derived `Drop` would drop each at every exit of a function that owns them, which makes its proof longer.
 impl Drop for ShownPlaces {
     fn drop(self) {
         let ShownPlaces {
