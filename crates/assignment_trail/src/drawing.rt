@@ -1,4 +1,7 @@
 //! Numbers that look random, and are the same in each run.
+//!
+//! Of the searches that share what they learn, all but the first draw activities of variables by them, and one first values. The seed is the number of the
+//! search, so that each decides differently. A number rests on the seed and the variable alone, so there is no state to keep.
 
 /// Returns a number for this one, as the seed has it. All its 32 bits are mixed, so a caller may take any of them, or a remainder.
 pub(crate) fn drawn(seed: u32, number: u32) -> u32 {

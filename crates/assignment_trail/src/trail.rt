@@ -81,7 +81,8 @@ impl Trail {
         }
     }
 
-    /// Each variable is tried first with the value that it has here, 0 for true and 1 for false. Any other number leaves the variable as it is.
+    /// Each variable is tried first with the value that it has here, 0 for true and 1 for false. Any other number leaves the variable as it is. From time to
+    /// time `solver` gives the values of its longest trail without a conflict, in which a variable that had none has such a number.
     pub fn try_first(&mut self, values: &[u8]) {
         for variable in 0..size(values) {
             let value = at(values, variable, 1);

@@ -129,7 +129,8 @@ fn write_block<'a, R: Threads + Wait + Sync, S: Surveyor + Sync, D, F: LineForm<
     })
 }
 
-/// These bytes, to be held.
+/// These bytes, to be held. They are the piece that has not ended yet, and are borrowed from what was held until now, so they are copied before that is
+/// dropped.
 fn held_of(alloc: Global, left: &[u8]) -> Result<Vec<u8>, AllocError>
     ensures { IfOk result (λ held. held.items ≡ left.now) }
 {

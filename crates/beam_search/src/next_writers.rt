@@ -1,4 +1,7 @@
 //! How far it is to a writer.
+//!
+//! A class is a location and a value that operations leave there. A state of a beam is worth less, the further it is in other processes to a writer of the
+//! class that a process waits for. That is asked of each state that is made, so all answers are in a table.
 
 use crate::classed_log::ClassedLog;
 use numbered_log::{NO_NUMBER, NumberedLog, ProcessId, ProcessPlace};

@@ -1,4 +1,7 @@
 //! Transitivity: the order of the operations has no cycle of three.
+//!
+//! `push_transitivity_from` makes clauses for a formula that stands in memory (`formula.rt`; with several workers `parallel_transitivity.rt` does).
+//! `put_transitivity_from` writes their lines (`stream_cnf.rt`) and keeps none, since their number grows with the cube of that of the operations.
 
 ghost use Rattle.std.specs.Prelude.{◌≡◌, ◌<◌, ◌≤◌, ◌+◌, ◌++◌, ◌∷◌, [], length, neg_ℤ, OnOk, OnErr};
 ghost use Rattle.std.specs.List.{flat_map};
@@ -54,7 +57,7 @@ fn push_of_pair(
     Ok(())
 }
 
-/// Appends the clauses of three operations of which this one is the lowest.
+/// Appends the clauses of three operations of which this one is the lowest; none if there is no operation of this number.
 pub(crate) fn push_transitivity_from(
     alloc: Global,
     layout: &Layout,

@@ -9,7 +9,8 @@ ghost use Rattle.clause_meaning.specs.Meanings.{meanings_of_run, triples_from};
 use crate::run::ClauseRun;
 use var_layout::layout::Layout;
 
-/// The number of those of the writers that are not this one.
+/// The number of those of the writers that are not this one. One less than all would be right only if this one is among them, and once, which the contract
+/// does not require.
 fn count_others(writer: usize, writers: &[usize]) -> usize
     ensures { result ≡ length (numbers.others writer writers.now) }
 {

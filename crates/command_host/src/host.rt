@@ -62,7 +62,8 @@ pub trait Host<'p> {
         ensures leaves { IfOk result (λ is_new. is_new ≡ false → calls.leaves self.old folder.now name.now self.new) }
         ensures failed { OnErr result (calls.fails_to_keep self.old folder.now name.now self.new) };
 
-    /// Takes the report of a search before it is run.
+    /// Takes the report of a search before it is run. No answer depends on the number of workers, so the contract of a run says by this report with which
+    /// options it searched. The host of the system does nothing with it.
     fn begin_search(&mut self, search: &SearchRequest)
         ensures { calls.searches self.old search.now self.new };
 

@@ -2,6 +2,8 @@
 //!
 //! Each of three files may be asked for: the certificate, the names of a core, and its part, which is the trace of these operations alone. They are made in
 //! this order, before the trace is opened and then the hint (`hinted_runs.rt`), and are given back in the other one.
+//!
+//! What is kept of the trace's text goes into `KeptRun` whatever the outcome is: after the run an explanation or a picture may be made of it.
 ghost use Rattle.std.specs.Prelude.{◌≡◌};
 ghost use Rattle.command_host.specs.Streams.{sink_view, source_view};
 ghost use Rattle.command_run.specs.CommandRun.{CertifiesSurveyed, RunsSurvey, RunsSurveyed, TakesCore, TakesNamesAndPart, TakesPart, inputs_of_survey, takes_none};

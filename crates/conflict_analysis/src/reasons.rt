@@ -1,5 +1,8 @@
 //! The reasons of pairs and of lost sources.
 //!
+//! To ask why one operation stands before another is to mark the older pairs that lead from the first to the second, as pairs that the conflict rests on. An
+//! operation is named if the conflict rests on it, be it an end of such a pair or not; a core has the operations that are named.
+//!
 //! Past the end of a table `at` reads as its last argument, and `put` does nothing; so arithmetic may wrap, and a wrong place makes no fault.
 
 use crate::analysis::Analysis;
@@ -176,7 +179,8 @@ impl Analysis {
         Ok(low)
     }
 
-    /// Asks why the last sources of the interval come too late. Returns where the interval ended at the time.
+    /// Asks why the last sources of the interval come too late. Returns where the interval ended at the time. Losses are gone over as in `ask_hidden`: a
+    /// reader that stands before the first writer that was lost stands before those behind it, too.
     fn ask_late(
         &mut self,
         order: &Propagation<'_>,

@@ -82,6 +82,9 @@ impl ProofWriter {
 
     /// Adds the clause of this number as a hint of the step, without a look at its literals. The last one that is added so must be false
     /// after all hints before it.
+    ///
+    /// It is for clauses that the caller knows by number alone, as those of the formula: one on a reader's choices may have more literals than a
+    /// `ShortClause` has room for. The step then counts as complete, and only the checker would find that it is not.
     pub fn add_hint(&mut self, id: u32) -> Result<(), AllocError> {
         self.replay.add_unchecked(id)
     }

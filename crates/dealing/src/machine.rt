@@ -1,4 +1,8 @@
 //! The dealing machine.
+//!
+//! It is a sequential model of the queues between threads: a dealer puts jobs into the job queue, each under a ticket; a worker takes one, and gives its
+//! outcome into the result queue; a collector gathers outcomes into the ledger. The laws (`laws.rt`) are of every list of these events, and no command
+//! runs the machine.
 ghost use Rattle.std.specs.Prelude.{◌≡◌, ◌≤◌, ◌==◌};
 ghost use Rattle.std.specs.List.{list_any};
 ghost use Rattle.std.specs.Option.{option_copied};

@@ -86,7 +86,8 @@ impl DrawnChoice {
         Ok(choice)
     }
 
-    /// Adds an operation that the picture is of. One that is added twice counts twice in `count`.
+    /// Adds an operation that the picture is of. One that is added twice counts twice in `count`. It is not looked for first, as in `put_beside`: of a long
+    /// trace `too_few_sources` may add thousands, each once, and only then `count` says that they are too many for a picture.
     pub fn choose(&mut self, number: OperationNumber) -> Result<(), AllocError> {
         self.operations.push(DrawnOperation {
             number,

@@ -183,7 +183,8 @@ fn put_in_row<'t>(items: &mut Vec<PictureItem<'t>>, k: usize, number: OperationN
     }
 }
 
-/// Gives each operation the row of its place in the schedule, from 0. A legal schedule names each once, so no two share a row.
+/// Gives each operation the row of its place in the schedule, from 0. A legal schedule names each once, so no two share a row. Long schedules are not drawn, so
+/// the box of each name is looked for among all.
 fn place_by_schedule<'t>(items: &mut Vec<PictureItem<'t>>, trace: &Trace, names: &[OpName]) {
     for row in 0..names.len() {
         if let Some(number) = number_of(trace, &names[row]) {

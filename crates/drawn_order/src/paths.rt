@@ -1,4 +1,7 @@
 //! Ways along arrows.
+//!
+//! A box is an operation that a picture has, or an initial or a final value, and is given by its number. Pictures are small, so each step of a search goes
+//! over all arrows.
 
 use crate::found_order::OrderArrow;
 use std::alloc::{AllocError, Global};

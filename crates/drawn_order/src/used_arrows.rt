@@ -1,4 +1,7 @@
 //! On which arrows, and on which exclusions of sources, a contradiction rests.
+//!
+//! Arrows lead between boxes, which are operations, and initial and final values. The contradiction is a cycle, whose arrows are marked, or a box that is
+//! lacking: each source from which it could have its value is excluded.
 
 use crate::found_order::{ArrowKind, DerivedBy, DerivedRule, Exclusion, FoundOrder, WhyExcluded};
 use crate::paths::{first_of, way_between};
@@ -47,7 +50,8 @@ fn use_source(found: &mut FoundOrder, reader: usize) {
     }
 }
 
-/// Marks what an order follows from, among the first `known` arrows.
+/// Marks what an order follows from, among the first `known` arrows. The reader has its value from the writer, so the other write stands before the writer or
+/// after the reader. The way that is marked rules out one of the two; nothing stands after a final value, so for its source no way is needed.
 fn use_premises(
     alloc: Global,
     found: &mut FoundOrder,

@@ -1,4 +1,7 @@
 //! The inputs of a command, read once more.
+//!
+//! A command hands on a status and its report, and no trace, so `--explain` reads the texts that were kept again, and the report too. That of a survey, a
+//! look over a whole trace, may have a schedule, or a core: the names of operations, mostly few, whose part of the trace has no legal schedule.
 
 use note_text::NamedText;
 use schedule_text::schedule_reader::read_schedule;

@@ -1,4 +1,6 @@
 //! The before pairs of a trace by numbers.
+//!
+//! The rows of the forced order are found by numbers, and are raised along the pairs more than once, so each name is looked up once, before that.
 
 ghost use Rattle.std.specs.Prelude.{◌≡◌, ◌≤◌, IfOk, length, map};
 ghost use Rattle.forced_order.specs.Forced.{numbered_pair, numbered_pairs};

@@ -1,6 +1,9 @@
 //! A walk over the operations of a trace, each after those that are forced to stand before it, unless steps are cyclic.
 //!
 //! The order of its steps decides how soon the rows are complete. No property of the rows rests on it.
+//!
+//! The row of an operation has for each process the last place there that is known to stand before it. `closing` raises the rows along the steps of the
+//! walk: each is then complete before another one takes it in, so once along the walk is enough unless steps are cyclic.
 
 use crate::least_ends::LeastEnds;
 use crate::numbered::OperationNumber;
@@ -239,7 +242,8 @@ impl<'a> FrontWalk<'a> {
     }
 }
 
-/// Returns the steps of a walk over all operations. Each round of the loop but the last visits an operation, so its bound is never reached.
+/// Returns the steps of a walk over all operations. Each round of the loop but the last visits an operation, so its bound is never reached. `counts` has for
+/// each process one more than its operations.
 pub fn steps_of<'a>(
     alloc: Global,
     trace: &'a Trace,

@@ -9,7 +9,8 @@ use cube_jobs::{Job, Settled};
 use dimacs::{Cube, are_same};
 use std::alloc::Global;
 
-/// The ticket and the cube of a job that a worker has taken and not yet settled.
+/// The ticket and the cube of a job that a worker has taken and not yet settled. `Board::give` compares both with those of a result, since its contract says
+/// that a result has the cube of the job which was put under its ticket.
 #[derive(Drop)]
 pub struct HeldJob {
     pub(crate) ticket: u32,

@@ -1,4 +1,7 @@
 //! The numbers of a derivation's text.
+//!
+//! Each is a number as solvers write it (`SolverNumber`): a minus or none, and a magnitude, which is missing from 2^64 on. A 0 with a minus is no number.
+//! Of lists `short_numbers` reads the short words at once, which are most; all others come here.
 
 ghost use Rattle.std.specs.Prelude.{◌≡◌, ◌≤◌, ℤ, pos, nat_abs, Some, None, IsTrue, MatchOption, MatchResult};
 ghost use Rattle.dimacs.specs.Literal.{is_literal};

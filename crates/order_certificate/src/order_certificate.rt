@@ -24,7 +24,9 @@ pub struct LogNames<'a> {
     pub operations: Vec<NamedPlace>,
 }
 
-/// Lines of reasons, and steps of which one derives the empty clause.
+/// Lines of reasons, and steps of which one derives the empty clause. The checker makes a clause of each line by itself; a step derives one from those of
+/// lines and of earlier steps. If walks, which are searches that learn clauses from conflicts, have refuted the log, steps derive these clauses anew, and
+/// the last step may need few of them.
 #[derive(Drop)]
 pub struct OrderCertificate {
     explanation: Explanation,

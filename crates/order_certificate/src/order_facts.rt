@@ -1,4 +1,7 @@
 //! Facts: that one operation stands before another by a way of older pairs.
+//!
+//! A pair is given by its number in `OrderedPairs`, which has the reason for it. The line of a fact in the certificate says that its way and the fact turned
+//! round would be a cycle, so the fact follows from the pairs of the way.
 
 use conflict_analysis::WayQuestion;
 use numbered_log::{NO_NUMBER, NOBODY};
@@ -94,7 +97,7 @@ impl OrderFacts {
         at(self.facts.as_slice(), number, NO_FACT)
     }
 
-    /// The pair at this place of the ways.
+    /// The number of the pair at this place of the ways. Those of a fact stand from its `begin` up to its `end`.
     pub(crate) fn pair(&self, place: u32) -> u32 {
         at(self.ways.as_slice(), place, NO_NUMBER)
     }

@@ -2,6 +2,10 @@
 //!
 //! Places of a process count from 1; `START` is before all of them and `FAR` behind. `rows.before(o, p)` is the place of the last operation of p that
 //! stands before o, or `START`, and `rows.after(o, p)` that of the first one that stands after it, or the place behind the last of p.
+//!
+//! `accesses.next` gives the place of a process's first access of a location, from a place on, that is no plain read of a value, and `accesses.previous` that
+//! of the last one up to a place. Both pass over plain reads that had one source from the start, as what these say follows from that source. A pair with this
+//! access is enough: by program order it holds for those behind it, or before it, too.
 
 use crate::conflict::{Conflict, Stop};
 use crate::propagation::Propagation;

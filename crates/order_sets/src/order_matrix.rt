@@ -36,7 +36,8 @@ pub struct OrderMatrix {
 }
 
 impl OrderMatrix {
-    /// Makes the order of at most 192 elements in which no two are in order yet.
+    /// Makes the order of at most 192 elements in which no two are in order yet. More are never asked for: `EncodingHints`, which has their
+    /// number, takes no order of more.
     pub fn new(alloc: Global, elements: u32) -> Result<OrderMatrix, AllocError> {
         let elements = elements.min(MAX_ELEMENTS);
         let variables = pair_count(elements);

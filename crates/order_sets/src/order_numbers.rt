@@ -25,7 +25,8 @@ pub fn variable_of_pair(elements: u32, a: u32, b: u32) -> u32 {
     pairs_below(elements, i).wrapping_add(j.wrapping_sub(i))
 }
 
-/// Returns the number of transitivity clauses of an order of this many elements: two for each three of them.
+/// Returns the number of transitivity clauses of an order of this many elements: two for each three of them. They stand one after the other in a
+/// formula, and `EncodingHints` counts by it to the id behind them. There elements are at most `MAX_ELEMENTS`, so no product wraps.
 pub fn transitivity_count(elements: u32) -> u32 {
     let triples = elements
         .wrapping_mul(elements.wrapping_sub(1))

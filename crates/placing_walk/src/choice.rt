@@ -132,7 +132,8 @@ impl PlacingWalk {
         }
     }
 
-    /// The process's next operation on the location, if it is in sight.
+    /// The process's next operation on the location, if it is in sight. It is looked for in each process, for each writer that can come next, so a short
+    /// look has to do. `next_rival` goes on to the end of a process, but is asked for the chosen writer alone.
     #[inline(always)]
     fn in_sight(
         &self,

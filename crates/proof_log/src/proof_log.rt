@@ -1,4 +1,7 @@
 //! The proof log: learned clauses with their hints.
+//!
+//! A table of marks begins with the clause of the number `from`: that of the log's first addition, or, if several logs make one derivation and share the
+//! table (`log_chain.rt`), the number from which their chain counts.
 
 ghost use Rattle.std.specs.Prelude.{◌≡◌, ◌≤◌, ◌+◌, length, IfOk, OnOk};
 

@@ -1,4 +1,9 @@
 //! The clause that a location has a last writer.
+//!
+//! A *witness* writes the location, or reads another value there than the final one, so it stands before the last writer, or is it. For each operation that
+//! may be the last writer the clause has the order that a witness, another operation, stands before it; one of these stands. The *pieces* of a line of a
+//! certificate name the witnesses: one for what is in a process up to a bound, and that of the *main piece* for all others. A writer that
+//! has its order is barred.
 
 ghost use Rattle.std.specs.Prelude.{◌≡◌, ◌≢◌, true, false, ℕ, List, Some, IfSome, OnOk, IfOk, IfErr};
 ghost use Rattle.std.specs.Bool.{MatchBool};
@@ -151,7 +156,7 @@ pub fn may_be_final(final_value: Option<u64>, left: u64) -> bool
 }
 
 /// Bars what may be the last writer in a process: the last of its run, if it leaves the final value or there is none. Returns whether the
-/// run has an operation.
+/// run has an operation. A run has the places at which a process writes the location; of an empty one the last is 0, and places count from 1.
 fn bar_last(
     trace: &Trace,
     location: &[u8],

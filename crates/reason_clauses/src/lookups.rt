@@ -1,4 +1,7 @@
 //! Operations of a trace by their numbers, and what they say of a value.
+//!
+//! The numbers are those of a line of a certificate of reasons, of which a clause over orders is made. A certificate is not believed: its reader has refused
+//! names of no operation, but operations are looked up again here, so that a clause holds in each legal schedule whatever numbers are given.
 
 ghost use Rattle.std.specs.Prelude.{◌≡◌, ◌<◌, true, length, None, Some, IfSome, OnOk, IfOk, IfErr};
 ghost use Rattle.std.specs.Str.{bytes_eq};

@@ -59,7 +59,7 @@ fn is_pair(trace: &Trace, place: usize, order: OrderPair) -> bool
 }
 
 /// Appends that the first operation stands before the second, if the trace says so by a before pair, which is looked for first at this place of
-/// its list.
+/// its list. Both operations are looked up first, so one that the trace lacks is refused as such, and `NoPair` is said only of two that it has.
 pub fn pair_clause(
     trace: &Trace,
     place: usize,

@@ -1,4 +1,7 @@
 //! What a line of a certificate takes of the sources of a reader, or of the last writers of a location.
+//!
+//! A piece that takes a source adds orders to the line's clause, of which one would stand if the reader had its value from there; of a last writer likewise.
+//! Pieces are named by their letters in the certificate's text (docs/REASONS.md): `H` is `MainPiece::Witness`, and `L` is `MainPiece::Between`.
 
 ghost use Rattle.std.specs.Prelude.{◌≡◌, ◌≢◌, ◌==◌, ◌≤◌, ◌⊎◌, [], None, Some, length, IfOk, IsSome, OnOk};
 ghost use Rattle.std.specs.Bool.{MatchBool};
@@ -160,7 +163,7 @@ impl SourcePieces {
         true
     }
 
-    /// Takes all others (`H` or `L`), and returns whether it did: there is one main piece.
+    /// Takes all that no other piece takes (`H` or `L`), and returns whether it did: there is one main piece.
     pub fn take_others(&mut self, main: MainPiece) -> bool
         ensures { MatchBool result ((self.old.main ≡ Plain) × (self.new.main ≡ main) × (self.new.processes.items ≡ self.old.processes.items) × (self.new.initial ≡ self.old.initial)) (self.old.main ≢ Plain) }
     {

@@ -1,4 +1,10 @@
 //! What pieces leave of the sources of a reader.
+//!
+//! A piece of a line of a certificate takes a stretch of the possible sources in one process, or the initial value, and bars them: it appends orders of which
+//! one stands if the reader reads from there. What no piece takes is left; of a process that is the main stretch, which an `s` line bars too (docs/REASONS.md).
+//!
+//! In its own process a reader has one possible source or none: the last writer of the location before it, if that leaves the value. In each other process all
+//! writers of the value are possible, if the trace does not say from where it reads.
 
 ghost use Rattle.std.specs.Prelude.{◌≡◌, ◌⊎◌, true, ℕ, List, OnOk, IfOk, IfErr};
 ghost use Rattle.trace_semantics.specs.declared.operation.OpName.{OpName};

@@ -1,4 +1,7 @@
 //! The orders that a line's clause has.
+//!
+//! The line is of an accepted certificate of reasons over orders, and its note, a sentence of `--explain`, names these orders. They are made by the calls
+//! that the check makes, so the note and the check speak of the same clause.
 
 ghost use Rattle.std.specs.Prelude.{◌≡◌, [], map, IfOk};
 ghost use Rattle.order_clauses.specs.Numbered.{named};

@@ -1,4 +1,7 @@
 //! The notes of lines.
+//!
+//! A note is a sentence of `--explain` on a line of a certificate of reasons. Only the first lines are noted (`MOST_NOTED` in `explaining.rt`), since a
+//! certificate may have very many; the last note counts the others.
 
 ghost use Rattle.std.specs.Prelude.{◌≡◌, ◌-◌, ◌++◌, IfOk, OnOk, length};
 ghost use Rattle.std.specs.List.{flat_map};

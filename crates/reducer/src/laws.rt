@@ -1,5 +1,8 @@
 //! Laws of reduction and expansion.
 //!
+//! Reduction drops plain reads that repeat what the operation directly before them in their process has shown, and of which the trace says nothing more. The
+//! kept trace is what is left, under new names. Expansion puts the dropped reads back into a schedule, directly behind what they repeat.
+//!
 //! A law's body is empty, or calls other laws: what it says is proved in the folder of its name in `proofs/laws`, or needs no
 //! answer. Who calls it has what it says in proofs; the call does nothing when run.
 

@@ -1,4 +1,7 @@
 //! What an operation leaves at a location.
+//!
+//! The formula of a trace, its parts, and the check of a certificate of reasons ask by this call what an operation writes at a location. It stands in this
+//! crate, below all of these, beside `left_by`, by which the laws of restriction ask that what stays of an operation leaves what the operation left.
 
 ghost use Rattle.std.specs.Prelude.{◌≡◌};
 ghost use Rattle.restriction.specs.Restriction.{left_by};

@@ -1,4 +1,7 @@
 //! The derivations that are answers.
+//!
+//! A slot is a leaf of the split tree: its cube, and the answer that was entered for it, if one was. If each cube is refuted, the derivations in the order
+//! of the leaves are those of a certificate.
 ghost use Rattle.std.specs.Prelude.{◌≡◌, ◌++◌, IfOk, OnOk, option_to_list};
 ghost use Rattle.result_ledger.specs.Ledger.{derivation_of, derivations_in, said_derivation};
 

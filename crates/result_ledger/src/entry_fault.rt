@@ -1,4 +1,7 @@
 //! The reason why a result is not entered.
+//!
+//! A ledger has a slot for each leaf of a split tree, and the ticket of a result is the number of its leaf. Each result of a search fits its slot, as
+//! `enter_all` requires; so no command prints a number or a name of these, which are for other callers of `Ledger::enter`.
 
 use text_lines::fault::FaultCause;
 

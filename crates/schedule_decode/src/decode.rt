@@ -1,4 +1,7 @@
 //! Decoding.
+//!
+//! A trace is reduced before it is encoded: plain reads that only repeat what their process has just left or read are dropped. The formula, its variables
+//! and the schedules here are of the operations that are kept; `expand` of the crate `reducer` puts the others back.
 
 ghost use Rattle.std.specs.Prelude.{◌≡◌, IfOk, IfErr, OnOk};
 ghost use Rattle.dimacs.specs.Assignment.{value_of};
@@ -19,8 +22,8 @@ use text_lines::fault::PlacedFault;
 use trace_semantics::schedule::Schedule;
 use var_layout::layout::Layout;
 
-/// The schedule in which the truth values put the operations, by the variables of what is kept. If they are a model it is
-/// legal. No clause is tried: of truth values that are no model it is only said that the call returns.
+/// The schedule in which the truth values put the operations, by the variables of what is kept. If they are a model it is legal. No clause is tried, since
+/// each caller has a model that was tried: of truth values that are none it is only said that the call returns.
 pub fn schedule_of(
     alloc: Global,
     reduced: &Reduced,

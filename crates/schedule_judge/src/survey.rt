@@ -31,7 +31,8 @@ pub struct Survey<'a> {
     pub endings: Vec<Ending<'a>>,
 }
 
-/// The place of each process, from 0, by its name.
+/// The place of each process, from 0, by its name. No two processes of a trace have one name, but the contract is of any list: the walk goes
+/// backwards, so that the first process of a name is entered last and stays.
 fn places_of_processes<'a>(
     alloc: Global,
     processes: &'a [Process],

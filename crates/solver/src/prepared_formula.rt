@@ -41,7 +41,7 @@ pub struct PreparedFormula<'a> {
     conflicts: AtomicU64,
 }
 
-/// Drops each table in one call. A derived `Drop` would drop each at every exit of a function that owns a prepared formula, where a derived `Drop` would drop them one by one, which makes its proof longer.
+/// Drops each table in one call. A derived `Drop` would drop each at every exit of a function that owns a prepared formula, which makes its proof longer.
 impl Drop for PreparedFormula<'_> {
     fn drop(self) {
         let PreparedFormula {

@@ -196,7 +196,8 @@ impl CountedReasons {
         Finding::Reasons(text)
     }
 
-    /// Puts the certificate behind a small core, and else before what was found first.
+    /// Puts the certificate behind a small core, and else before what was found first. A core names its operations, which this certificate does not.
+    /// What was found second is dropped: an overview has room for two findings, of which the caller takes the first that shows something.
     pub(crate) fn beside(self, overview: Overview) -> Overview
         ensures { result.extent ≡ overview.extent }
     {

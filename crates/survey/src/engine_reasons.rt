@@ -79,6 +79,10 @@ pub(crate) fn certificate_of(
 }
 
 /// The certificate, by the numbers of the log without repeated local reads.
+///
+/// Pairs may rest on what walks have learned, so if there is any of that it is derived anew, in an order of its own, which has this one's budget meanwhile.
+/// Else the log was refuted by takers, which are updates and last writes with too few sources, or by the conflict in which propagation ended. If counting
+/// by value refuted it before anything was propagated, there is neither, and no certificate comes of it here.
 fn certificate_by_numbers(
     alloc: Global,
     reduced: &ReducedLog,

@@ -1,4 +1,7 @@
 //! What a survey finds.
+//!
+//! A core is operations, mostly few, whose part, what they say by themselves, should have no legal schedule; then the whole has none. It is not believed:
+//! the caller makes the part of the trace and refutes its formula, which has room for few operations.
 ghost use Rattle.std.specs.Prelude.{◌≤◌, IfOk};
 
 use crate::another::make_smaller;
@@ -165,7 +168,7 @@ impl BySaturation {
     }
 }
 
-/// The finding, by names. A core, which took the `spent` steps, is made smaller.
+/// The finding, by names. A core is made smaller. Finding it took the `spent` looks, on which depends how long another one is looked for.
 fn finding_of(
     alloc: Global,
     trace: &Trace,
@@ -289,7 +292,8 @@ fn numbers_of(
 }
 
 /// Makes the core smaller while saturation, or a walk, still refutes it. The formula of its part grows with the cube of its operations, so
-/// a core that stays large is never refuted.
+/// a core that stays large is never refuted. The order is made here and lent, since a function that owned it would drop it at each of its exits,
+/// which makes a proof longer.
 fn smallest_core(
     alloc: Global,
     log: &NumberedLog,

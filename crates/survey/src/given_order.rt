@@ -237,7 +237,8 @@ impl<'a> GivenOrder<'a> {
         self.writers.next_of_any(process, location, place)
     }
 
-    /// The number of the final value of the location among the readers.
+    /// The number of the final value of the location among the readers: it counts as one, numbered behind all operations, and its possible sources are the
+    /// possible last writers of the location.
     pub fn final_reader(&self, location: LocationId) -> OperationId {
         self.log.final_reader(location)
     }

@@ -1,5 +1,8 @@
 //! What is left of a log on some of its operations.
 //!
+//! What is left of a legal schedule of the log has to be one of the part: then a part without one shows that the log has none. So a read stays only if all
+//! its possible sources do, as its value may come from any of them. Initial values always stay.
+//!
 //! If this is not the part that is made of the trace, the answer is of no use, and nothing worse.
 //!
 //! Past the end of a table `at` reads as its last argument, and `put` does nothing; so arithmetic may wrap, and a wrong place makes no fault.
@@ -201,7 +204,8 @@ impl Renaming {
     }
 }
 
-/// Returns whether all possible sources of the reader are chosen.
+/// Returns whether all possible sources of the reader are chosen. They stand as intervals of positions in a table of writers, one interval for each process
+/// that has some.
 pub fn has_all_sources(order: &GivenOrder<'_>, reader: OperationId, chosen: &Chosen) -> bool {
     if !order.sources().is_reader(reader) {
         return false;

@@ -27,7 +27,8 @@ pub fn begins_dimacs_comment(word: &[u8]) -> bool
     !word.is_empty() && word[0] == b'c'
 }
 
-/// Returns whether the line is skipped in texts of DIMACS or LRAT: it has no words, or is a comment.
+/// Returns whether the line is skipped in texts of DIMACS or LRAT: it has no words, or is a comment. The callers have no words of it yet, and it may have
+/// any number of them, so the first alone is cut off.
 pub fn is_dimacs_skipped_line(line: &[u8]) -> bool
     ensures { result ≡ is_dimacs_skipped (words_of line.now) }
 {

@@ -76,7 +76,7 @@ pub fn first_words(line: &[u8]) -> InlineList<&[u8], 11>
 }
 
 /// Bytes without a blank, after which one stands, are the first word; and bytes without a blank are one word. A law, proved in
-/// `proofs/words/ended_word_is_first`.
+/// `proofs/words/ended_word_is_first`. No code calls it: it shows that `words_of`, by which contracts say what a text means, is what a reader takes it for.
 pub fn ended_word_is_first()
     ensures ended { (word : List ℕ) (blank : ℕ) (rest : List ℕ) → 0 < length word → list_any is_blank word ≡ false → is_blank blank ≡ true →
         words_of (word ++ blank ∷ rest) ≡ word ∷ words_of rest }

@@ -36,6 +36,9 @@ use trace_semantics::schedule::Schedule;
 use trace_semantics::trace::Trace;
 
 /// The schedule of the whole trace in which a model puts the kept operations. It is legal. The model is not tried again.
+///
+/// The operations that reduction has dropped are reads that `expand` puts back. The kept trace is asked for its contract alone, which says that it is the
+/// reduction of the whole: that makes the expansion of a legal schedule legal.
 fn whole_schedule(
     alloc: Global,
     reduced: &Reduced,

@@ -4,7 +4,8 @@ use crate::operation::OpName;
 use std::alloc::{AllocError, Global};
 use std::collections::HashMap;
 
-/// Some operations, by the names of their processes and their places. Contracts ask of it which it has.
+/// Some operations, by the names of their processes and their places. Contracts ask of it which it has. In `reducer` it has the operations that before pairs
+/// and origins name, which are not dropped, and in `trace_part` those of which a part of a trace is made.
 #[derive(Drop)]
 pub struct OpSet<'a> {
     /// The keys are the members; the value beside a key is always true and is not read.

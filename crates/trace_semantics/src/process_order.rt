@@ -15,7 +15,8 @@ pub fn find_process(processes: &[Process], name: &[u8]) -> Option<usize>
     processes.iter().position(|p| p.name.as_bytes() == name)
 }
 
-/// Returns how many processes stand before the one of this name; without such a process, how many there are.
+/// Returns how many processes stand before the one of this name; without such a process, how many there are. Before pairs are sorted and numbered by it; as
+/// these name processes of their trace alone, the last case only makes the answer a number for any name.
 pub fn order_of(processes: &[Process], name: &[u8]) -> usize
     ensures { result ≡ order_of processes.now name.now }
 {

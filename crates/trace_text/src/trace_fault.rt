@@ -3,7 +3,8 @@
 use text_lines::fault::{FaultCause, PlacedFault};
 use text_lines::plain_fault::PlainFault;
 
-/// What is wrong with a line of a trace text, or with the whole.
+/// What is wrong with a line of a trace text, or with the whole. A refusal prints its number and its name, as `refused: trace 4 UnknownLine at 3`. Both are
+/// part of the output, as docs/FORMATS.md lists it, so they are written out below and not derived from the variants.
 #[derive(Clone, Copy, Debug, PartialEq, Eq)]
 pub enum TraceCause {
     /// A byte above 127.

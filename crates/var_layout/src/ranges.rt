@@ -2,6 +2,8 @@
 //!
 //! A law's body is empty, or calls other laws: what it says is proved in the folder of its name in `proofs/ranges`, or needs no
 //! answer. Who calls it has what it says in proofs; the call does nothing when run.
+//!
+//! The definitions in `specs/` give each variable its number. These laws are there so that it is proved that the numbers stay in their range.
 
 ghost use Rattle.std.specs.Prelude.{◌≡◌, ◌≢◌, ◌<◌, ◌≤◌, ℕ, List, Some, false, IsTrue, slice_get};
 ghost use Rattle.std.specs.List.{Contains};
@@ -24,7 +26,7 @@ pub fn few_variables()
     ensures { (t : TraceValue) → IsTrace t → operation_count t ≤ 160 → variable_count t ≤ most_variable }
 {}
 
-/// Literals of the trace's variables.
+/// Literals of the trace's variables: each variable and its negation are among the literals of a formula that has no other variables.
 pub fn variables_have_literals()
     ensures { (t : TraceValue) (v : ℕ) → IsVariable t v → HasLiterals t v }
 {}

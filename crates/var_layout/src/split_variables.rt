@@ -1,4 +1,7 @@
 //! The order variables of operations in conflict.
+//!
+//! Cubes are made by splits on the first of these variables. Program order has the order of operations of one process, and what is read does not depend
+//! directly on the order of two operations that are not in conflict.
 
 ghost use Rattle.std.specs.Prelude.{◌≡◌, ◌<◌, ◌++◌, ◌==◌, ◌&&◌, ◌||◌, [], map, take, not, IfOk, OnOk};
 ghost use Rattle.std.specs.List.{list_any};

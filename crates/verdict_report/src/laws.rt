@@ -1,5 +1,8 @@
 //! Laws of the texts that are admitted.
 //!
+//! A text is admitted if it spells a trace of which 160 operations at most are kept. The others are reads that only repeat what the operation directly before
+//! them in their process has shown; the formula, its proofs and its certificates are of the kept trace alone.
+//!
 //! A law's body is empty, or calls other laws: what it says is proved in the folder of its name in `proofs/laws`, or needs no
 //! answer. Who calls it has what it says in proofs; the call does nothing when run.
 

@@ -4,7 +4,8 @@ use crate::runs::{Run, Runs};
 use std::alloc::{AllocError, Global};
 use std::marker::Model;
 
-/// Some operations, by the numbers of their classes. A number that none has is a class of none.
+/// Some operations, by the numbers of their classes. A number that none has is a class of none. A class is all writers of a location, or of a location and a
+/// value. `WriterClasses` counts them from 1, and gives 0 for what no operation writes, so the class of number 0 stays empty.
 #[derive(Drop)]
 pub struct PlaceTable {
     rows: Vec<Runs>,
