@@ -21,7 +21,8 @@ pub struct OrderedTrail<'a> {
     ids: TripleIds,
     /// The reads-from variables, if the hints have them.
     pub reads_from: Option<&'a ReadsFromTable>,
-    /// Reads-from candidates.
+    /// Reads-from candidates: which choices are open, and which are made. They follow the trail, so that propagation and counting look at sets of bits, and not
+    /// at each variable.
     pub candidates: Candidates,
 }
 

@@ -315,6 +315,8 @@ impl<'a> BeamSearch<'a> {
         let number = size(self.successors.as_slice());
         let first = self.seen.note(self.state.mixed(), self.layers_made, number);
         let ways = self.state.ways;
+        // The first parent stays, since one order is enough for a schedule. So does the worth: that of the ways is no part of it, and all else follows
+        // from the state, whichever parent led there.
         if first != number {
             let mut known = at(self.successors.as_slice(), first, NO_SUCCESSOR);
             known.ways = known.ways.or(ways);
@@ -398,7 +400,8 @@ impl<'a> BeamSearch<'a> {
         self.make_next_layer(alloc, chosen.best.as_slice(), excess, budget)
     }
 
-    /// Makes the next layer of these successors, and puts it in place of the layer.
+    /// Makes the next layer of these successors, and puts it in place of the layer. Of all of them the ways are divided by one power of two, `excess`: so they
+    /// stay comparable, and do not overflow when the next layer sums them up.
     fn make_next_layer(
         &mut self,
         alloc: Global,

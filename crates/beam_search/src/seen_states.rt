@@ -1,4 +1,7 @@
 //! The states, or cells of states, that a layer has already.
+//!
+//! In the states of a cell each process is about as far ahead of the others, or behind them (`front_cells.rt`). States and cells are known by mixed
+//! numbers, which are hashes (`State::mixed`, `State::front_cell`); a search has one table for the states and one for the cells.
 
 use std::alloc::{AllocError, Global};
 use total_tables::{at, put};

@@ -129,7 +129,8 @@ impl State {
         true
     }
 
-    /// Places the process's next operation.
+    /// Places the process's next operation, which has this number. A plain write gains nothing: the states of a layer, which are compared, have as many writers
+    /// placed, so what differs is how many reads and updates are. The ways stay as they are, since each of them goes on by this operation.
     pub(crate) fn place(
         &mut self,
         log: &ClassedLog,

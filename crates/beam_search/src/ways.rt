@@ -13,7 +13,8 @@ pub(crate) struct Ways {
 /// The bits of the highest number of a layer, so that the sum over all parents of a state cannot overflow.
 const BITS: u32 = 44;
 
-/// The worth of twice as many ways: 20 for each factor e.
+/// The worth of twice as many ways: 20 for each factor e. A beam chooses states by their worth (`worth.rt`), to which that of the ways is added. A read or
+/// an update that is placed is worth as much as that (`state.rt`).
 const WORTH_OF_TWICE: u64 = 14;
 
 impl Ways {

@@ -1,4 +1,6 @@
 //! The writer of a certificate's text.
+//!
+//! A certificate is a split tree and, for each of its leaves, a section: the derivation that refutes the leaf's cube.
 
 ghost use Rattle.std.specs.Prelude.{◌≡◌, ◌+◌, ◌<◌, ◌++◌, codes, length, IfOk, IfErr, OnOk, OnErr};
 ghost use Rattle.std.specs.Fmt.{decimal};

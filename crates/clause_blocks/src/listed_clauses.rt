@@ -1,4 +1,7 @@
 //! The clause list of a reduced trace as a formula that is seen by its clauses.
+//!
+//! A piece of the list is stored clauses, or the clauses of transitivity of one lowest operation. Those of transitivity are almost all, so they are not stored:
+//! each is made by its place when it is asked for.
 
 ghost use Rattle.std.specs.Prelude.{◌≡◌, ◌<◌, [], length, slice_index_or, IsTrue, OnOk, IfErr};
 ghost use Rattle.dimacs.specs.Assignment.{value_of};

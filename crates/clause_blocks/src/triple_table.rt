@@ -25,6 +25,7 @@ pub(crate) struct TripleTable {
     /// In row j the sum, over all operations below j, of two clauses for each operation above them. With one lowest operation, each middle one
     /// has just these clauses, whichever the lowest is: one table serves all.
     middle: Vec<u32>,
+    /// The landmarks of `middle`, by which the last row is found that is not above a clause's place.
     near: Landmarks,
 }
 

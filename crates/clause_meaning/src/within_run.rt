@@ -1,4 +1,7 @@
 //! What the clause at a place of a run says.
+//!
+//! A reader that has nothing to read from, or a final value that nothing leaves, has a void variable. It is true by one clause and false by another, so
+//! the formula has no model.
 
 ghost use Rattle.std.specs.Prelude.{◌≡◌, ◌≤◌, ◌∷◌, [], true, false, slice_get};
 ghost use Rattle.trace_semantics.specs.Trace.{operation_count};

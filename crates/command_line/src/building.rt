@@ -1,4 +1,7 @@
 //! How commands are put together.
+//!
+//! That a call of `arg` adds its argument, and no other, is proved by hand each time. So it is done here, for two or three at a time: most commands have no
+//! more of their own, and `verify`, `survey` and `batch` go on with `with_two`.
 
 ghost use Rattle.std.specs.Prelude.{◌≡◌, ◌||◌, IfOk, false};
 ghost use Rattle.clap.specs.Words.{app_of, new_app, rule_of, with_rule};

@@ -43,6 +43,9 @@ pub fn new_cnf_command<'a>(alloc: Global) -> Result<Command<'a>, AllocError>
 }
 
 /// Gives what the matches of the command ask for.
+///
+/// `cnf` has no `--picture`, so none is found. It is looked up nevertheless: the contract, which is the same for each command, says that what was given
+/// for it is handed on.
 pub fn cnf_line<'a>(matches: &ArgMatches<'a>) -> CommandLine<'a>
     requires trace { IsSome (first_value (found_of matches.now) (codes "trace")) }
     requires workers { HasWorkers (found_of matches.now) }

@@ -261,7 +261,8 @@ fn notes_of_unmade(alloc: Global, failed: Option<FailedFile<'_>>) -> Vec<u8> {
     notes.into_taken()
 }
 
-/// Explains on standard error that a file could not be made.
+/// Explains on standard error that a file could not be made: that of `--picture`, which is made before the engine runs, so that there is neither an
+/// outcome nor a text that was read.
 pub(crate) fn explain_unmade<E: Sink>(alloc: Global, failed: Option<FailedFile<'_>>, err: &mut E)
     ensures { Adds (sink_run E.written E.failures err.old err.new) }
 {

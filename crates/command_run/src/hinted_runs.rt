@@ -1,6 +1,9 @@
 //! The engine that decides long traces, on a trace that is open and on a hint, or on none.
 //!
 //! There are two engines: the one that writes a certificate, and the one that does not.
+//!
+//! A hint is an order in which the operations may have come. It may be wrong: it guides the search, and no answer rests on it. What was read of it goes into
+//! `KeptRun`, of which an explanation may be made after the run. By the report to the host the contract of a run says with which options it searched.
 ghost use Rattle.std.specs.Prelude.{◌≡◌};
 ghost use Rattle.command_host.specs.Streams.{source_view};
 ghost use Rattle.command_run.specs.CommandRun.{CertifiesHinted, SurveysHinted};

@@ -1,4 +1,7 @@
 //! The picture of an answer.
+//!
+//! A run hands on a status and neither a schedule nor a core, so a survey looks for one anew, in the trace's text. `KeptRun` has that text if a picture is
+//! asked for, since a pipe could not be read twice. No bytes stand for no picture, so that one call writes in both cases.
 ghost use Rattle.std.specs.Prelude.{◌≡◌};
 ghost use Rattle.command_run.specs.CommandRun.{Adds, Draws, Takes};
 ghost use Rattle.verdict_report.specs.Runs.{sink_run};

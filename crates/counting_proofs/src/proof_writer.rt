@@ -160,7 +160,8 @@ impl ProofWriter {
         })
     }
 
-    /// Defines a literal that is true if the first is, or the other two are.
+    /// Defines a literal that is true if the first is, or the other two are. Counts are such literals (`CountRow::add_counts`): at least k of some
+    /// readers have one of the first sources if k of those before the last of them have, or if k - 1 have and the last one has one too.
     pub fn define_either(
         &mut self,
         alone: u32,

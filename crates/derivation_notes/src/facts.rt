@@ -23,7 +23,8 @@ pub struct ReasonedOrder {
     pub reason: OrderReason,
 }
 
-/// The literals that are true, and the orders among them with their reasons.
+/// The literals that are true, and the orders among them with their reasons. Only a derivation of few hints is followed so (`explaining.rt`), and each hint
+/// and each literal that a step supposes gives one order or none: the list is short, so `reason_of` goes over it.
 #[derive(Drop)]
 pub struct Facts {
     /// All literals that are true, by which clauses are followed.

@@ -1,4 +1,7 @@
 //! On what a long derivation rests.
+//!
+//! A short derivation is noted sentence by sentence (`telling.rt`). Of a longer one, by the bounds of `explaining.rt`, the notes only say how many clauses
+//! it uses, and of which operations these speak.
 
 use crate::needed_steps::NeededSteps;
 use crate::story::{Phrase, Story};

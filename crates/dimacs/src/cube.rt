@@ -71,6 +71,7 @@ impl Cube {
         requires { length literals.now ≤ MAX_CUBE_LITERALS }
         ensures { result ≡ literals.now }
     {
+        // For proofs alone, here and below: no literal is 0, as the invariant says.
         recall_literals(literals);
         Cube {
             literals: copy_literals(alloc, literals),

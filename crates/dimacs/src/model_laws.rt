@@ -2,6 +2,9 @@
 //!
 //! A law's body is empty, or calls other laws: what it says is proved in the folder of its name in `proofs/model_laws`, or needs no
 //! answer. Who calls it has what it says in proofs; the call does nothing when run.
+//!
+//! No function calls these. They are for a reader of the contracts of `Formula::eval` and `ClauseList::eval`, which answer that values are a model, or
+//! give the first clause that they make false: exactly one such answer is right.
 
 ghost use Rattle.std.specs.Prelude.{◌≡◌, ◌⊎◌, ℕ, ℤ, Bool, List};
 ghost use Rattle.dimacs.specs.Models.{IsModel, IsFirstFalse};

@@ -1,6 +1,9 @@
 //! The before pairs of a trace by numbers.
 //!
 //! The rows of the forced order are found by numbers, and are raised along the pairs more than once, so each name is looked up once, before that.
+//!
+//! A before pair is one of which the trace says that the first operation stands before the second. A row has for an operation the last place of each process
+//! that is known to stand before it (`rows.rt`).
 
 ghost use Rattle.std.specs.Prelude.{◌≡◌, ◌≤◌, IfOk, length, map};
 ghost use Rattle.forced_order.specs.Forced.{numbered_pair, numbered_pairs};

@@ -1,5 +1,9 @@
 //! Raises the rows of a trace along the steps of its forced order. The row of an operation has for each process the last place that is known to stand
-//! before it; to raise it along a step is to take in the row of the operation that the step begins with.
+//! before it; to raise it along a step is to take in the row of the operation that the step begins with. The pairs are the trace's before pairs,
+//! by number: of each the trace says that the first operation stands before the second.
+//!
+//! `closing` raises rows along a walk first, which is enough unless steps are cyclic, and then by `raise_all`, which goes along every step and so shows that
+//! none is left. Each call is made before `either` joins its answer, so once a row has risen the later steps are taken all the same.
 
 ghost use Rattle.std.specs.Prelude.{◌≡◌, ◌≤◌, ◌<◌, ◌+◌, nat_le, Some, IsSome, length};
 ghost use Rattle.std.specs.List.{slice_get};
@@ -50,7 +54,7 @@ fn raise_next(rows: &mut OrderRows, trace: &Trace, n: OperationNumber) -> bool
     }
 }
 
-/// Raises the row of the second operation of the pair under this number.
+/// Raises the row of the second operation of the pair under this number. Nothing is proved of the steps of a walk, so a number of no pair raises no row.
 fn raise_pair(
     rows: &mut OrderRows,
     trace: &Trace,

@@ -8,6 +8,7 @@ use std::marker::Model;
 use trace_semantics::limits::MAX_PROCESSES;
 
 /// Returns whether one of the two holds. Both are computed before the call, so a pass over steps leaves none out once a row has risen.
+/// It is a call, and not `||` in place, so that the proof of a pass has one equation for its answer.
 pub fn either(first: bool, second: bool) -> bool
     ensures { result ≡ (first || second) }
 {

@@ -1,4 +1,8 @@
 //! A board is closed.
+//!
+//! A seat lets one participant do its part: the dealer, who puts jobs, a worker, or the collector, who gathers results. A pass is a seat's token at a channel,
+//! by which proofs know what the seat put or took there. The first passes are the dealer's and the collector's; those of workers were cut off them, and joined
+//! again the first ones know the lists of all. A stop ticket, one from the number of cubes on, ends a worker.
 ghost use Rattle.std.specs.Prelude.{◌≡◌, ◌<◌, ℕ, List, [], length, map, None};
 ghost use Rattle.std.specs.List.{All};
 ghost use Rattle.crossbeam_channel.specs.Claims.{view, IsSeatAt};

@@ -17,7 +17,7 @@ pub struct HeldJob {
     pub(crate) cube: Cube,
 }
 
-/// The job that is in flight at a worker.
+/// The job that is in flight at a worker, in its seat at the board (`WorkerSeat`).
 #[derive(Drop)]
 pub enum InFlight {
     /// Nothing: it may take a job.
@@ -51,7 +51,8 @@ impl HeldJob {
 }
 
 impl InFlight {
-    /// The ticket of the job that it holds. A stop ticket is none.
+    /// The ticket of the job that it holds. A stop ticket is none. Contracts of `Board::take` and `Board::give` speak of it as `ticket_in`. Of the code only
+    /// tests ask for it, by `WorkerSeat::holds`.
     pub(crate) fn ticket(&self) -> Option<u32>
         ensures { result ≡ ticket_in self.now }
     {

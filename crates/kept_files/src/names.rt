@@ -1,4 +1,6 @@
 //! Names of files.
+//!
+//! The text of a trace without a legal schedule, and what shows that it has none, are kept in files that have one name, but for its ending (`keeping.rt`).
 ghost use Rattle.std.specs.Prelude.{◌≡◌, ◌++◌, IfOk, string_bytes};
 ghost use Rattle.kept_files.specs.KeptFiles.{kept_name};
 

@@ -1,4 +1,8 @@
 //! The active clauses of a derivation.
+//!
+//! A step that adds a clause by resolution on a literal (RAT) asks how often the negation stands in active clauses (`counted_clauses.rt`). That is counted by
+//! what differs from the formula: the cube and added clauses come to its counts, and hidden ones are taken off. The ids of these stand in a table, or in a
+//! tree if they are past its end (`hidden_ids.rt`).
 
 ghost use Rattle.std.specs.Prelude.{◌≡◌, ◌+◌, ◌==◌, ◌||◌, ℕ, ℤ, Bool, List, Option, Some, None, true, false, MatchOption, OnOk, is_some, [], ◌∷◌};
 ghost use Rattle.std.specs.BTreeSet.{contains};

@@ -1,4 +1,7 @@
 //! Copies of derivations, and whether one is a copy of another.
+//!
+//! A derivation that a formula has no model is the answer for many of its cubes: `solver` gives each of them a copy, and `result_ledger` finds by a
+//! comparison that it has accepted the same one already, and does not check it again.
 
 ghost use Rattle.std.specs.Prelude.{◌≡◌, ◌↔◌, IsTrue, IfOk};
 ghost use Rattle.lrat_check.specs.declared.derivation.Step.TheVariants.{Addition, Deletion};

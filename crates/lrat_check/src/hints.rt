@@ -226,7 +226,8 @@ impl Hints {
         Ok(Hints { numbers })
     }
 
-    /// Returns whether these are the same hints in the same order, kept in the same way. The same hints may be kept in another.
+    /// Returns whether these are the same hints in the same order, kept in the same way. The same hints may be kept in another. It is asked whether the
+    /// derivation for one cube is a copy (`copied`) of that for another, which then needs no check; so a wrong no costs time alone.
     pub fn are_same(&self, other: &Hints) -> bool
         ensures { IsTrue result → self.now ≡ other.now }
     {

@@ -19,7 +19,8 @@ pub fn times(clause: &[Lit], literal: Lit) -> usize
 }
 
 /// The number of times that each literal stands in the clauses that are counted, by the literals' places. A table has the places
-/// that the literals counted before pay for; the counts past those stand in a tree.
+/// that the literals counted before pay for; the counts past those stand in a tree. So its memory is bounded by what was read,
+/// whichever variables a derivation names.
 #[derive(Drop)]
 pub struct LiteralCounts {
     /// The count at each place from 0 on (`marks::place_of`), up to the table's end. For these places the table alone is asked.

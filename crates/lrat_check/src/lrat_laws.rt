@@ -2,6 +2,9 @@
 //!
 //! A law's body is empty, or calls other laws: what it says is proved in the folder of its name in `proofs/lrat_laws`, or needs no
 //! answer. Who calls it has what it says in proofs; the call does nothing when run.
+//!
+//! No function calls those of this file. They are for readers of two contracts: by the definitions in that of `read_lrat` each text has one derivation or
+//! one first fault, and never both; and the text in that of `write_lrat` spells the steps that were written.
 
 ghost use Rattle.std.specs.Prelude.{◌≡◌, ◌⊎◌, ℕ, List, true};
 ghost use Rattle.std.specs.List.{list_all};

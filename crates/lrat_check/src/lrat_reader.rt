@@ -136,7 +136,7 @@ fn end_line(rest: &[u8], number: usize) -> Result<(), LratFault>
     }
 }
 
-/// The addition whose id is this word and whose other words follow.
+/// The addition whose id is this word and whose other words follow. Ids begin at 1; the first number of a deletion names no clause, so that one may be 0.
 fn read_addition(
     alloc: Global,
     rooms: &mut LineRooms,

@@ -2,8 +2,8 @@
 
 ghost use Rattle.std.specs.Iterator.{at_most};
 
-/// The number of an operation in its log, from 0. As readers the final values of locations have such numbers too, behind those of all
-/// operations.
+/// The number of an operation in its log, from 0: the operations of one process after those of another, each in program order. As readers the final
+/// values of locations have such numbers too, behind those of all operations.
 #[derive(Clone, Copy, PartialEq, Eq, PartialOrd, Ord)]
 pub struct OperationId {
     number: u32,
@@ -92,7 +92,7 @@ impl OperationId {
         OperationId::new(self.number.wrapping_add(1))
     }
 
-    /// The operation before this one.
+    /// The operation before this one; it is of the same process unless this one is the first there. That of `FIRST` is `NOBODY`.
     #[inline(always)]
     pub fn previous(self) -> OperationId {
         OperationId::new(self.number.wrapping_sub(1))

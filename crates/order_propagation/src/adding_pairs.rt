@@ -2,6 +2,8 @@
 //!
 //! Places of a process count from 1; `START` is before all of them and `FAR` behind. `rows.before(o, p)` is the place of the last operation of p that
 //! stands before o, or `START`, and `rows.after(o, p)` that of the first one that stands after it, or the place behind the last of p.
+//!
+//! An access hides a source from a reader if it stands between the two: the reader cannot have its value from there then (`HidingAccesses`).
 
 use crate::conflict::{Conflict, Stop};
 use crate::propagation::Propagation;

@@ -163,7 +163,8 @@ impl<'a> Propagation<'a> {
             .spend((self.log.processes() as u64).wrapping_mul(8));
     }
 
-    /// Has all readers in reach wait, from the fronts on up to this number of places.
+    /// Has all readers in reach wait, from the fronts on up to this number of places. Walks call it when they have learned from a conflict, since
+    /// `forget_waiting` and `set_front` leave readers without a look; and for the next operations alone, if none of them can come.
     pub fn wake_from_fronts(&mut self, places: u32) {
         for process in self.log.process_ids() {
             let front = self.reach.front(process);

@@ -2,6 +2,9 @@
 //!
 //! A law's body is empty, or calls other laws: what it says is proved in the folder of its name in `proofs/laws`, or needs no
 //! answer. Who calls it has what it says in proofs; the call does nothing when run.
+//!
+//! A part is what some chosen operations say by themselves, given an order of operations. By that order a read has possible sources, and it remains only if all
+//! of them are chosen; an update of which they are not remains as a write. Restricting a schedule leaves out what does not remain, and counts places anew.
 
 ghost use Rattle.std.specs.Prelude.{◌≡◌, ◌≢◌, true, Bool, List, IsSome};
 ghost use Rattle.trace_semantics.specs.declared.operation.OpName.{OpName};
@@ -39,7 +42,8 @@ pub fn derived_stands()
     ensures { (t : TraceValue) (ordered : OpName → OpName → Bool) (names : List OpName) (m n : OpName) → IsTrace t → IsLegal t names → Obeys t names ordered → IsDerived t ordered m n → StandsBefore names m n }
 {}
 
-/// Two orders that agree on the operations of a trace make the same part of it.
+/// Two orders that agree on the operations of a trace make the same part of it. All forced orders of a trace agree, so the part that `trace_part` makes by
+/// one of them is that of each.
 pub fn orders_that_agree_make_one_part()
     ensures { (t : TraceValue) (first second : OpName → OpName → Bool) (chosen : OpName → Bool) → IsTrace t → Agree t first second → part t first chosen ≡ part t second chosen }
 {}

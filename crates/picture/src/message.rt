@@ -25,7 +25,7 @@ pub(crate) enum NothingDrawn {
     NoCore,
 }
 
-/// Adds a line of the note.
+/// Adds the line of the note, below the title. Each of these pictures has one, so its place is fixed.
 fn note_line(svg: &mut SvgText, words: &[&[u8]]) {
     svg.line_of_text(b"note", MARGIN, 54, words);
 }

@@ -1,6 +1,9 @@
 //! Decisions, and what is learned from their conflicts.
 //!
 //! In functions of a step `None` means that the walk goes on, and an ending that it is over.
+//!
+//! The front of a process is the place of its next operation. In a walk that decides always, readers are looked at while decisions stand only within the
+//! reach, a number of places around the fronts (`reach.rt` of `order_propagation`).
 
 use crate::placing_walk::{Deciding, PlacingWalk, WalkEnding};
 use crate::waiting::Awaited;
@@ -109,7 +112,7 @@ impl PlacingWalk {
     }
 
     /// Learns a clause from what the analysis was asked, jumps back to where it leaves one literal, and adds that, as long as this is a conflict
-    /// again.
+    /// again. The caller has asked why the order is in conflict, or why no process of a closed set can go on before another of them.
     pub(crate) fn learn(
         &mut self,
         order: &mut Propagation<'_>,
@@ -134,12 +137,14 @@ impl PlacingWalk {
             match self.settled(order, added)? {
                 Propagated::Done => {
                     self.heed(order, target);
+                    // The fronts may have moved back, so readers that are in reach now wait for a look; if all always are, none does.
                     order.wake_from_fronts(order.reach());
                     return Ok(None);
                 }
                 Propagated::Spent => break,
                 Propagated::Conflict => {}
             }
+            // Beside the count of `jump_back`: a clause that is a conflict as soon as it is added counts twice.
             self.conflicts = self.conflicts.wrapping_add(1);
             if self.conflicts > self.most_conflicts || self.learning.clauses.is_full() {
                 break;
@@ -214,7 +219,8 @@ impl PlacingWalk {
     }
 
     /// Looks at the readers that come next once more, and at what waits. Returns how the walk goes on, if that says anything new. If so, the inner part is
-    /// as in other steps.
+    /// as in other steps. Such a reader may have been out of reach when its row changed, and fronts that go back wake none by themselves: what it says
+    /// may be missing, and is surer than a decision.
     fn look_at_fronts(
         &mut self,
         order: &mut Propagation<'_>,

@@ -1,4 +1,7 @@
 //! The clause of updates and ends of locations that are more than their sources, by pieces.
+//!
+//! A piece of a line of a certificate takes a stretch of the sources that a member may have, or of the last writers of its location, and bars them: it appends
+//! orders of which one stands if it is one of those. What no piece takes is left, and is counted against the members (docs/REASONS.md).
 
 ghost use Rattle.std.specs.Prelude.{◌≡◌, ◌≤◌, ◌<◌, ◌+◌, ◌⊎◌, true, false, ℕ, List, IsSome, length, slice_index_or, OnOk, IfOk, IfErr};
 ghost use Rattle.std.specs.List.{All, Contains};

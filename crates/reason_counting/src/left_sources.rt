@@ -5,6 +5,9 @@
 //!
 //! In its own process a reader has one possible source or none: the last writer of the location before it, if that leaves the value. In each other process all
 //! writers of the value are possible, if the trace does not say from where it reads.
+//!
+//! A run has the places of these writers in one process, in order: pieces take those up to a bound, by a witness that hides them, and those from a limit on,
+//! and the main stretch is what lies between. `bar_taken_other` is for runs of other processes than the reader's.
 
 ghost use Rattle.std.specs.Prelude.{◌≡◌, ◌⊎◌, true, ℕ, List, OnOk, IfOk, IfErr};
 ghost use Rattle.trace_semantics.specs.declared.operation.OpName.{OpName};

@@ -1,4 +1,7 @@
 //! The clause that of some operations one comes first.
+//!
+//! A waiting set is operations of which each has to wait for one of them, unless an order of the clause stands; since one of them comes first, some order does.
+//! A piece takes a stretch of a reader's possible sources, or the initial value, and bars them: of its orders one stands if the reader reads from there.
 
 ghost use Rattle.std.specs.Prelude.{◌≡◌, ◌≤◌, ◌<◌, ◌⊎◌, true, false, ◌∷◌, ◌++◌, [], List, length, map, OnOk, IfOk, IfErr, slice_index_or};
 ghost use Rattle.writer_table.specs.declared.operation_place.OperationPlace.{OperationPlace as Place};

@@ -2,6 +2,9 @@
 //!
 //! The line is of an accepted certificate of reasons over orders, and its note, a sentence of `--explain`, names these orders. They are made by the calls
 //! that the check makes, so the note and the check speak of the same clause.
+//!
+//! A clause may have an order more than once, as when one witness bars sources in several processes. A sentence says it once: `distinct_orders` leaves out
+//! each order that repeats one of the first, which are those that a sentence lists.
 
 ghost use Rattle.std.specs.Prelude.{◌≡◌, [], map, IfOk};
 ghost use Rattle.order_clauses.specs.Numbered.{named};

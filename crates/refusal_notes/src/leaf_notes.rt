@@ -1,4 +1,6 @@
 //! Why the derivation of a certificate's leaf was refused.
+//!
+//! A certificate is a split tree and, for each of its leaves, a derivation that refutes the leaf's cube.
 
 use crate::earlier_lines::first_line_with;
 use crate::failed_hint::explain_hint_of;
@@ -85,7 +87,8 @@ fn explain_section(
     )
 }
 
-/// Adds why the derivation of this leaf was refused, if the certificate is of a whole trace.
+/// Adds why the derivation of this leaf was refused, if the certificate is of a whole trace. Beside names it is of the part that they make up, whose
+/// clauses are not those of the trace, and the part is not made again for a note.
 pub(crate) fn explain_leaf(
     alloc: Global,
     notes: &mut Notes,

@@ -188,7 +188,7 @@ impl ScheduleSearch {
         }
     }
 
-    /// The largest number of operations that a walk has placed.
+    /// The largest number of operations that a walk has placed, by which a survey says how far it came. What beams have placed does not count.
     pub fn most_placed(&self) -> u32 {
         self.most_placed
     }

@@ -85,7 +85,8 @@ pub fn begins_with_a_schedule(trail: &OrderedTrail<'_>) -> bool {
     are_mostly_updates(trail) && has_long_processes(trail)
 }
 
-/// Returns whether a search along a schedule may be the better one of two: most elements are updates, or there are not too many states.
+/// Returns whether a search along a schedule may be the better one of two: most elements are updates, or there are not too many states. If so, it takes
+/// turns with a search that decides by activity, and `begins_with_a_schedule` says which has the first turn.
 pub fn suits_a_schedule(trail: &OrderedTrail<'_>) -> bool {
     trail.reads_from.is_some()
         && has_long_processes(trail)

@@ -1,6 +1,8 @@
 //! Hall violators at level 0: readers that cannot all have a source. This is a pigeonhole principle, of which resolution, and so a search
 //! that learns clauses, has only proofs of exponential size (Haken, "The intractability of resolution", 1985). So it is looked for, and
 //! refuted, by counting: before the first decision, and again after each turn of a search, since learned clauses may exclude more sources.
+//!
+//! A budget bounds the conflicts of a search, and the steps of a derivation too. A turn is a share of it, at most 500 conflicts (`TURN`).
 
 ghost use Rattle.std.specs.Prelude.{◌≤◌, length, IfOk, IfSome};
 ghost use Rattle.proof_log.specs.Answers.{IsWithin};
@@ -137,7 +139,8 @@ impl<'a> Search<'a> {
     }
 
     /// Returns a derivation of at most `budget` steps, if there is a contradiction of readers and sources. The log has what was learned,
-    /// and nothing is decided.
+    /// and nothing is decided. It is called after a turn, and for a formula before its cubes are searched (`whole.rt`). If the derivation takes more steps,
+    /// the search goes on, or begins.
     pub(crate) fn refute_by_counting(
         &mut self,
         log: &ProofLog,

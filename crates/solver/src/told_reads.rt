@@ -15,6 +15,9 @@ fn is_excluded(trail: &OrderedTrail<'_>, variable: u32) -> bool {
 }
 
 /// Returns the place of each event among the writers of its location.
+///
+/// From it follows the number of a choice's clause that forbids the event to stand between the reader and its source. Many choices name one writer, so
+/// each place is counted once.
 fn places_of(alloc: Global, reads_from: &ReadsFromTable) -> Result<Vec<u32>, AllocError> {
     let mut places = Vec::with_capacity(alloc, reads_from.elements() as usize)?;
     for element in 0..reads_from.elements() {

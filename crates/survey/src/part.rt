@@ -205,7 +205,7 @@ impl Renaming {
 }
 
 /// Returns whether all possible sources of the reader are chosen. They stand as intervals of positions in a table of writers, one interval for each process
-/// that has some.
+/// that has some. What reads nothing, as the final value of a location of which the log gives none, has no intervals and would pass: so that is asked first.
 pub fn has_all_sources(order: &GivenOrder<'_>, reader: OperationId, chosen: &Chosen) -> bool {
     if !order.sources().is_reader(reader) {
         return false;

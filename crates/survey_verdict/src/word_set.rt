@@ -3,7 +3,8 @@
 use std::alloc::{AllocError, Global};
 use std::collections::HashMap;
 
-/// Some words: the keys of a table, whose values say nothing. Contracts ask of it which it has.
+/// Some words: the keys of a table, whose values say nothing. Contracts ask of it which it has. In `named_operations` these are the words of a
+/// certificate of reasons, in which each operation of the trace is then looked up.
 #[derive(Drop)]
 pub(crate) struct WordSet<'a> {
     members: HashMap<&'a [u8], bool>,

@@ -1,4 +1,7 @@
 //! The progress of a search or a survey, reported on standard error.
+//!
+//! A job is the search of one cube, a leaf of the split tree, and its ticket is the number of that leaf. A round searches all leaves that have no answer;
+//! between two rounds those that stayed open are split, so each round has its own number of cubes.
 use cube_jobs::{Gate, Stage};
 use std::io::IsTerminal;
 use std::sync::atomic::{AtomicU64, Ordering};

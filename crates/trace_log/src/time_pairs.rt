@@ -15,7 +15,8 @@ const MOST_PAIRS: usize = 1 << 24;
 struct OperationTimes {
     /// When each began, 0 for one without times: nothing had ended before.
     starts: Vec<u64>,
-    /// The least end of the operation and of those behind it in its process, the latest time there is for one without times.
+    /// The least end of the operation and of those behind it in its process, the latest time there is for one without times. So ends rise along a process,
+    /// which halving needs; and what began after one behind the operation had ended stands after the operation too.
     least_ends: Vec<u64>,
     /// Whether in each process no operation began before an earlier one did.
     rise: bool,

@@ -1,4 +1,7 @@
 //! The before pairs of a part.
+//!
+//! A part of a trace is what some chosen operations say by themselves; they have new places in it. What led from one of them to another in the whole may be
+//! left out, so the pairs are made of the whole trace's forced order, and not of its own pairs alone.
 
 ghost use Rattle.std.specs.Prelude.{◌≡◌, ◌<◌, ◌+◌, ◌++◌, length, map, take, Option, Some, IfOk, OnOk};
 ghost use Rattle.std.specs.List.{filter, find, slice_get};

@@ -1,4 +1,6 @@
 //! How many locations a trace names.
+//!
+//! The text of a trace is written in the earliest version that has room for it (`trace_writer.rt`). Version 3 has room for more locations than 1 and 2.
 
 ghost use Rattle.std.specs.Prelude.{◌≡◌, ◌++◌, [], List, ℕ, IfOk, OnOk, map, nat_lt};
 ghost use Rattle.std.specs.List.{flat_map};

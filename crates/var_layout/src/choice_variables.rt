@@ -122,7 +122,8 @@ fn leader_of(numbering: &Numbering<'_>, i: usize) -> usize
     count
 }
 
-/// This variable, if its owner needs a void one: `first` is the next variable that is free.
+/// This variable, if its owner needs a void one: `first` is the next variable that is free. The owner is a reading operation, or a final value
+/// (`final_variables.rt`).
 pub(crate) fn void_variable(is_void: bool, first: u32) -> Option<u32>
     ensures { result ≡ (if is_void then Some first else None) }
 {

@@ -98,7 +98,8 @@ impl Layout {
         })
     }
 
-    /// Gives what is kept of the operation of this number, if there is one.
+    /// Gives what is kept of the operation of this number, if there is one. The other calls look entries up by this one, and those of final values by
+    /// `final_table`: the invariant is of whole tables, and these contracts say what follows for one entry.
     fn op_table(&self, i: usize) -> Option<&OpVariables>
         ensures leader { option_map (λ (table : OpTableValue). table.leader) (option_copied result) ≡ tables.leader_at self.now i }
         ensures reads { option_map_or (λ (table : OpTableValue). table.reads) (option_copied result) false ≡ is_some (numbers.read_at self.now i) }

@@ -185,7 +185,8 @@ impl<'a> Numbering<'a> {
         }
     }
 
-    /// The number of the operation of this name, or the number of operations if none has it.
+    /// The number of the operation of this name, or the number of operations if none has it. Only the names of before pairs are looked up, and a trace's
+    /// pairs are of its own operations, so the caller need not ask. A layout is of at most 160 operations, so a search through all is short.
     pub fn number_of(&self, name: &OpName) -> usize
         ensures { result ≡ number.number_of self.now name.now }
     {
@@ -198,7 +199,7 @@ impl<'a> Numbering<'a> {
         count
     }
 
-    /// The writers of the location, in order.
+    /// The writers of the location, in order. Each call goes over all operations: a layout has at most 160 (`layout.rt`), so no table by location is made.
     pub fn writers(&self, alloc: Global, location: &[u8]) -> Result<Vec<usize>, AllocError>
         ensures { IfOk result (λ found. found.items ≡ number.writers self.now location.now) }
     {

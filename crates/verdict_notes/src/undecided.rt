@@ -22,6 +22,7 @@ pub struct SearchEffort {
 }
 
 /// Notes what to try if the search of the trace was given up, and of the report, if it is at hand, which cubes are open.
+/// The report is what the search has written to standard output; a long one is not kept. The places are those under which notes name operations.
 pub fn explain_undecided(
     alloc: Global,
     notes: &mut Notes,

@@ -1,4 +1,7 @@
 //! How a refusal of a part becomes one of an engine.
+//!
+//! An engine is what a command does, from bytes to bytes. Its parts are readers, checks and searches, mostly of other crates, each with a fault of its own.
+//! Engines end a call of a part with `?`, which goes by these conversions.
 
 ghost use Rattle.std.specs.Prelude.{◌≡◌};
 
@@ -190,6 +193,7 @@ impl From<SinkFault> for Fault {
     }
 }
 
+/// A certificate of reasons ends with a derivation. What is wrong with that is said as of any other LRAT proof, in its areas.
 impl From<ReasonsFault> for Fault {
     ghost use Rattle.std.specs.Prelude.{◌≡◌};
     ghost use Rattle.verdict_report.specs.Fault.{fault_of_reasons};
