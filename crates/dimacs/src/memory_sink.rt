@@ -9,7 +9,7 @@ use std::alloc::Global;
 #[derive(Drop)]
 pub struct MemorySink {
     bytes: Vec<u8>,
-    /// Seen by clauses alone.
+    /// How often it has failed, which contracts speak of: the one of `write` says that a call has either taken bytes or failed once. It is not there when run.
     failures: FailureCount,
 }
 

@@ -237,7 +237,8 @@ impl FoundOrder {
         }
     }
 
-    /// The number of sources of the box that are not drawn and that the known order excludes.
+    /// The number of sources of the box that are not drawn and that the known order excludes. An `Exclusion` names a box, which these have not, so the sentences
+    /// below a picture say only how many they are.
     pub fn unseen_sources(&self, reader: usize) -> usize {
         if reader < self.unseen.len() {
             self.unseen[reader]

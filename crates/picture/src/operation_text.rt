@@ -25,7 +25,8 @@ fn append(text: &mut Vec<u8>, words: &[&[u8]]) -> Result<(), AllocError> {
     Ok(())
 }
 
-/// Appends where an operation reads from by its line.
+/// Appends where an operation reads from by its line. A picture of a part names operations by the places that they have in the whole trace, so the place of the
+/// line is not the one that is shown.
 fn append_origin(
     text: &mut Vec<u8>,
     origin: &Origin,

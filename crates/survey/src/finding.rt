@@ -273,7 +273,8 @@ fn undecided_of(order: &Propagation<'_>) -> u32 {
     count
 }
 
-/// The finding of a search that has ended so.
+/// The finding of a search that has ended so. It went over the reduced log: `expand` puts what that lacks back into a schedule, and of a core only the numbers
+/// change. A search keeps a core where it has met a contradiction.
 fn numbers_of(
     alloc: Global,
     log: &NumberedLog,
