@@ -124,7 +124,7 @@ impl Watches {
         }
     }
 
-    /// Returns whether no clause watches the literal. Propagation asks this before it takes the list of a falsified literal out: most have none, and to take
+    /// Returns whether no clause watches the literal. Propagation asks this before it takes the list of a falsified literal out: many have none, and to take
     /// an empty one out and to put it back would be two writes for nothing.
     #[inline(always)]
     pub fn is_empty(&self, literal: u32) -> bool {

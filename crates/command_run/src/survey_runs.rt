@@ -166,8 +166,7 @@ fn inputs_of<'p>(paths: SurveyPaths<'p>) -> SurveyInputs<'p>
     }
 }
 
-/// Returns whether no file is asked for that takes what shows an INCONSISTENT. Then the survey neither looks for a core nor writes a certificate, which take
-/// longer than the verdict alone.
+/// Returns whether no file is asked for that takes what shows an INCONSISTENT. Then no file is made before the trace is opened.
 fn takes_none(files: SurveyFiles<'_>) -> bool
     ensures { result ≡ takes_none files.entry }
 {

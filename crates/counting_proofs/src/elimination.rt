@@ -1,8 +1,8 @@
 //! Elimination of operations, one after the other, by resolution on the order. The steps grow with the square of their
 //! number.
 //!
-//! One of finitely many operations is the first of them, or the last: none of the others stands on that side of it, so by its clause its own literal is true. The clause
-//! which says that one of the own literals is true is what `cycles` and `last_writer` go on with.
+//! One of finitely many operations is the first of them, or the last: none of the others stands on that side of it, so by its clause its own literal is true.
+//! The clause which says that one of the own literals is true is what `cycles` and `last_writer` go on with.
 
 use crate::step_log::StepLog;
 use order_sets::TripleIds;
