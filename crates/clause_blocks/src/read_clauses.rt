@@ -58,6 +58,13 @@ fn push_reads_initial(
     Ok(())
 }
 
+/// A writer from which an operation may read, with the variable that says so.
+#[derive(Clone, Copy)]
+struct WriterChoice {
+    writer: usize,
+    variable: u32,
+}
+
 /// Appends what it means that an operation reads from a writer: the writer stands before it, and each other writer
 /// before the writer or after the operation. The list `after` has the literals of the operation's other writers in the same order
 /// (`others_after`).
@@ -66,17 +73,17 @@ fn push_reads_writer(
     layout: &Layout,
     r: usize,
     after: &[Lit],
-    w: usize,
-    variable: u32,
+    choice: WriterChoice,
     clauses: &mut Vec<Clause>,
 ) -> Result<(), AllocError>
-    requires two { AreTwo layout.now w r }
+    requires two { AreTwo layout.now choice.writer r }
     requires after { after.now ≡ map (stands_before layout.now r) (other_writers layout.now r) }
-    requires variable { FitsFormula variable }
-    ensures { OnOk result (clauses.new.items ≡ clauses.old.items ++ blocks.reads_from layout.now r variable (Candidate.Writer w)) }
+    requires variable { FitsFormula choice.variable }
+    ensures { OnOk result (clauses.new.items ≡ clauses.old.items ++ blocks.reads_from layout.now r choice.variable (Candidate.Writer choice.writer)) }
 {
     layout.recall_limits();
-    let unchosen = Lit::positive(variable).negated();
+    let w = choice.writer;
+    let unchosen = Lit::positive(choice.variable).negated();
     clauses.push(Clause::binary(alloc, unchosen, layout.order_lit(w, r)))?;
     let writers = layout.other_writers(r);
     for k in 0..writers.len() {
@@ -105,8 +112,10 @@ fn push_reads_from(
 {
     match choice.candidate {
         Candidate::InitialValue => push_reads_initial(alloc, after, choice.variable, clauses),
-        Candidate::Writer(w) => {
-            push_reads_writer(alloc, layout, r, after, w, choice.variable, clauses)
+        Candidate::Writer(writer) => {
+            let variable = choice.variable;
+            let chosen = WriterChoice { writer, variable };
+            push_reads_writer(alloc, layout, r, after, chosen, clauses)
         }
     }
 }

@@ -11,7 +11,7 @@ ghost use Rattle.command_line.specs.CommandLine.{AsksWith, batch_app, json_rule,
 use crate::arguments::{
     flag_argument, flag_of, optional_path_argument, optional_text_of, paths_argument, texts_of,
 };
-use crate::building::{command_of_two, with_two};
+use crate::building::{CommandHelp, command_of_two, with_two};
 use crate::explains::explains_of;
 use crate::line::{BatchNumbers, BatchOutput, CommandLine, Line};
 use crate::line_fault::LineFault;
@@ -109,7 +109,12 @@ pub fn new_batch_command<'a>(alloc: Global) -> Result<Command<'a>, AllocError>
 {
     let traces = files_argument(alloc);
     let workers = workers_argument(alloc, "How many threads decide traces, 1 to 8");
-    let command = command_of_two(alloc, "batch", ABOUT, AFTER_HELP, traces, workers)?;
+    let help = CommandHelp {
+        name: "batch",
+        about: ABOUT,
+        example: AFTER_HELP,
+    };
+    let command = command_of_two(alloc, help, traces, workers)?;
     let split = split_argument(alloc);
     let budget = budget_argument(alloc);
     let command = with_two(command, split, budget)?;

@@ -12,6 +12,17 @@ use crate::arguments::flag_argument;
 use clap::{Arg, Command};
 use std::alloc::{AllocError, Global};
 
+/// The name of a command, and what its help says.
+#[derive(Clone, Copy)]
+pub struct CommandHelp<'a> {
+    /// The name.
+    pub name: &'a str,
+    /// The line on what the command does.
+    pub about: &'a str,
+    /// The text behind the list of options.
+    pub example: &'a str,
+}
+
 /// The command with two more arguments.
 pub fn with_two<'a>(
     command: Command<'a>,
@@ -26,30 +37,28 @@ pub fn with_two<'a>(
     command.arg(first)?.arg(second)
 }
 
-/// A command of this name with two arguments. `example` is the text behind the list of options in its help.
+/// A command of this name with two arguments.
 pub fn command_of_two<'a>(
     alloc: Global,
-    name: &'a str,
-    about: &'a str,
-    example: &'a str,
+    help: CommandHelp<'a>,
     first: Arg<'a>,
     second: Arg<'a>,
 ) -> Result<Command<'a>, AllocError>
     requires first { first.global ≡ false }
     requires second { second.global ≡ false }
-    ensures app { IfOk result (λ c. app_of c ≡ with_rule (with_rule (new_app name.entry.now) (rule_of first.entry)) (rule_of second.entry)) }
+    ensures app { IfOk result (λ c. app_of c ≡ with_rule (with_rule (new_app help.entry.name.now) (rule_of first.entry)) (rule_of second.entry)) }
     ensures local { IfOk result (λ c. (out-Command c).has_globals ≡ false) }
 {
-    let command = Command::new(alloc, name).about(about).after_help(example);
+    let command = Command::new(alloc, help.name)
+        .about(help.about)
+        .after_help(help.example);
     with_two(command, first, second)
 }
 
 /// A command of this name with three arguments.
 pub fn command_of_three<'a>(
     alloc: Global,
-    name: &'a str,
-    about: &'a str,
-    example: &'a str,
+    help: CommandHelp<'a>,
     first: Arg<'a>,
     second: Arg<'a>,
     third: Arg<'a>,
@@ -57,10 +66,10 @@ pub fn command_of_three<'a>(
     requires first { first.global ≡ false }
     requires second { second.global ≡ false }
     requires third { third.global ≡ false }
-    ensures app { IfOk result (λ c. app_of c ≡ with_rule (with_rule (with_rule (new_app name.entry.now) (rule_of first.entry)) (rule_of second.entry)) (rule_of third.entry)) }
+    ensures app { IfOk result (λ c. app_of c ≡ with_rule (with_rule (with_rule (new_app help.entry.name.now) (rule_of first.entry)) (rule_of second.entry)) (rule_of third.entry)) }
     ensures local { IfOk result (λ c. (out-Command c).has_globals ≡ false) }
 {
-    let command = command_of_two(alloc, name, about, example, first, second)?;
+    let command = command_of_two(alloc, help, first, second)?;
     command.arg(third)
 }
 

@@ -7,7 +7,7 @@ ghost use Rattle.command_line.specs.CommandLine.{AsksWith, cnf_app};
 ghost use Rattle.command_line.specs.Arguments.{HasFlag, HasWorkers, all_texts};
 
 use crate::arguments::{optional_text_of, text_of, trace_argument};
-use crate::building::command_of_two;
+use crate::building::{CommandHelp, command_of_two};
 use crate::explains::explains_of;
 use crate::line::{CommandLine, Line};
 use crate::numbers::{workers_argument, workers_of};
@@ -39,7 +39,12 @@ pub fn new_cnf_command<'a>(alloc: Global) -> Result<Command<'a>, AllocError>
 {
     let trace = trace_argument(alloc);
     let workers = workers_argument(alloc, "How many threads may make the text, 1 to 8");
-    command_of_two(alloc, "cnf", ABOUT, AFTER_HELP, trace, workers)
+    let help = CommandHelp {
+        name: "cnf",
+        about: ABOUT,
+        example: AFTER_HELP,
+    };
+    command_of_two(alloc, help, trace, workers)
 }
 
 /// Gives what the matches of the command ask for.

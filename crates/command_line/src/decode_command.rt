@@ -7,7 +7,7 @@ ghost use Rattle.command_line.specs.Arguments.{HasFlag, all_texts};
 ghost use Rattle.command_line.specs.CommandLine.{AsksWith, decode_app};
 
 use crate::arguments::{optional_text_of, path_argument, text_of, trace_argument};
-use crate::building::command_of_two;
+use crate::building::{CommandHelp, command_of_two};
 use crate::explains::explains_of;
 use crate::line::{CommandLine, Line};
 use clap::{ArgMatches, Command};
@@ -41,7 +41,12 @@ pub fn new_decode_command<'a>(alloc: Global) -> Result<Command<'a>, AllocError>
         "MODEL",
         "A file with a solver's answer: 's' lines and 'v' lines",
     );
-    command_of_two(alloc, "decode", ABOUT, AFTER_HELP, trace, model)
+    let help = CommandHelp {
+        name: "decode",
+        about: ABOUT,
+        example: AFTER_HELP,
+    };
+    command_of_two(alloc, help, trace, model)
 }
 
 /// Gives what the matches of the command ask for.

@@ -7,7 +7,7 @@ ghost use Rattle.command_line.specs.Arguments.{HasFlag, all_texts};
 ghost use Rattle.command_line.specs.CommandLine.{AsksWith, judge_app};
 
 use crate::arguments::{optional_text_of, path_argument, text_of, trace_argument};
-use crate::building::command_of_two;
+use crate::building::{CommandHelp, command_of_two};
 use crate::explains::explains_of;
 use crate::line::{CommandLine, Line};
 use clap::{ArgMatches, Command};
@@ -40,7 +40,12 @@ pub fn new_judge_command<'a>(alloc: Global) -> Result<Command<'a>, AllocError>
         "SCHEDULE",
         "A file with a schedule: the name of one operation a line",
     );
-    command_of_two(alloc, "judge", ABOUT, AFTER_HELP, trace, schedule)
+    let help = CommandHelp {
+        name: "judge",
+        about: ABOUT,
+        example: AFTER_HELP,
+    };
+    command_of_two(alloc, help, trace, schedule)
 }
 
 /// Gives what the matches of the command ask for.

@@ -7,7 +7,7 @@ ghost use Rattle.command_line.specs.Arguments.{HasFlag, all_texts};
 ghost use Rattle.command_line.specs.CommandLine.{AsksWith, lrat_app};
 
 use crate::arguments::{optional_text_of, path_argument, text_of};
-use crate::building::command_of_two;
+use crate::building::{CommandHelp, command_of_two};
 use crate::explains::explains_of;
 use crate::line::{CommandLine, Line};
 use clap::{ArgMatches, Command};
@@ -34,7 +34,12 @@ pub fn new_lrat_command<'a>(alloc: Global) -> Result<Command<'a>, AllocError>
 {
     let cnf = path_argument(alloc, "cnf", "CNF", "A file with a formula, as DIMACS text");
     let proof = path_argument(alloc, "proof", "PROOF", "A file with an LRAT proof");
-    command_of_two(alloc, "lrat", ABOUT, AFTER_HELP, cnf, proof)
+    let help = CommandHelp {
+        name: "lrat",
+        about: ABOUT,
+        example: AFTER_HELP,
+    };
+    command_of_two(alloc, help, cnf, proof)
 }
 
 /// Gives what the matches of the command ask for.

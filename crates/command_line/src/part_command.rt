@@ -9,7 +9,7 @@ ghost use Rattle.command_line.specs.CommandLine.{AsksWith, part_app, show_names_
 use crate::arguments::{
     flag_argument, flag_of, optional_text_of, path_argument, text_of, trace_argument,
 };
-use crate::building::command_of_three;
+use crate::building::{CommandHelp, command_of_three};
 use crate::explains::explains_of;
 use crate::line::{CommandLine, Line};
 use clap::{Arg, ArgMatches, Command};
@@ -59,7 +59,12 @@ pub fn new_part_command<'a>(alloc: Global) -> Result<Command<'a>, AllocError>
         "A file with names of operations, one a line, in any order",
     );
     let shows_names = show_names_argument(alloc);
-    command_of_three(alloc, "part", ABOUT, AFTER_HELP, trace, names, shows_names)
+    let help = CommandHelp {
+        name: "part",
+        about: ABOUT,
+        example: AFTER_HELP,
+    };
+    command_of_three(alloc, help, trace, names, shows_names)
 }
 
 /// Gives what the matches of the command ask for.

@@ -9,7 +9,7 @@ ghost use Rattle.command_line.specs.CommandLine.{AsksWith, part_rule, recheck_ap
 use crate::arguments::{
     optional_path_argument, optional_text_of, path_argument, text_of, trace_argument,
 };
-use crate::building::command_of_three;
+use crate::building::{CommandHelp, command_of_three};
 use crate::explains::explains_of;
 use crate::line::{CommandLine, Line};
 use clap::{Arg, ArgMatches, Command};
@@ -59,7 +59,12 @@ pub fn new_recheck_command<'a>(alloc: Global) -> Result<Command<'a>, AllocError>
         "A file with a certificate, as 'vsc verify --cert' writes it",
     );
     let part = part_argument(alloc);
-    command_of_three(alloc, "recheck", ABOUT, AFTER_HELP, trace, cert, part)
+    let help = CommandHelp {
+        name: "recheck",
+        about: ABOUT,
+        example: AFTER_HELP,
+    };
+    command_of_three(alloc, help, trace, cert, part)
 }
 
 /// Gives what the matches of the command ask for.

@@ -11,7 +11,7 @@ use crate::arguments::{
     flag_of, optional_path_argument, optional_text_of, picture_argument, progress_argument,
     text_of, trace_argument,
 };
-use crate::building::{command_of_three, with_two};
+use crate::building::{CommandHelp, command_of_three, with_two};
 use crate::explains::explains_of;
 use crate::line::{CommandLine, Line, SurveyFiles, SurveyNumbers};
 use crate::numbers::{budget_of, steps_argument, workers_argument, workers_of};
@@ -102,7 +102,12 @@ pub fn new_survey_command<'a>(alloc: Global) -> Result<Command<'a>, AllocError>
     let trace = trace_argument(alloc);
     let cert = cert_argument(alloc);
     let names = names_argument(alloc);
-    let command = command_of_three(alloc, "survey", ABOUT, AFTER_HELP, trace, cert, names)?;
+    let help = CommandHelp {
+        name: "survey",
+        about: ABOUT,
+        example: AFTER_HELP,
+    };
+    let command = command_of_three(alloc, help, trace, cert, names)?;
     let part = part_argument(alloc);
     let budget = steps_argument(alloc);
     let command = with_two(command, part, budget)?;

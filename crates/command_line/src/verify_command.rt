@@ -11,7 +11,7 @@ use crate::arguments::{
     flag_of, optional_path_argument, optional_text_of, picture_argument, progress_argument,
     text_of, trace_argument,
 };
-use crate::building::{command_of_two, with_two};
+use crate::building::{CommandHelp, command_of_two, with_two};
 use crate::explains::explains_of;
 use crate::line::{CommandLine, Line, SearchNumbers};
 use crate::numbers::{
@@ -62,7 +62,12 @@ pub fn new_verify_command<'a>(alloc: Global) -> Result<Command<'a>, AllocError>
 {
     let trace = trace_argument(alloc);
     let cert = cert_argument(alloc);
-    let command = command_of_two(alloc, "verify", ABOUT, AFTER_HELP, trace, cert)?;
+    let help = CommandHelp {
+        name: "verify",
+        about: ABOUT,
+        example: AFTER_HELP,
+    };
+    let command = command_of_two(alloc, help, trace, cert)?;
     let workers = workers_argument(alloc, "How many threads may search, 1 to 8");
     let split = split_argument(alloc);
     let command = with_two(command, workers, split)?;

@@ -13,7 +13,7 @@ use batch_report::{BatchSearch, LineForm, NumberedPiece, PieceMembers, PieceVerd
 use command_host::Host;
 use dimacs::SinkFault;
 use kept_files::{KeptTexts, keep_texts, stem_of};
-use piece_details::{PieceDetails, details_of, push_kept, push_members};
+use piece_details::{PieceDetails, PieceSearch, details_of, push_kept, push_members};
 use std::alloc::{AllocError, Global};
 use std::sync::Wait;
 use std::thread::Threads;
@@ -88,15 +88,12 @@ impl<'p> Beside<'p> {
         let surveyor = BySaturation {
             budget: SURVEY_STEPS,
         };
-        details_of(
-            alloc,
-            rt,
-            text,
-            &self.search.short,
-            &self.search.long,
-            &surveyor,
-            self.folder.is_some(),
-        )
+        let search = PieceSearch {
+            short: &self.search.short,
+            long: &self.search.long,
+            surveyor: &surveyor,
+        };
+        details_of(alloc, rt, text, &search, self.folder.is_some())
     }
 
     /// Keeps the files of a trace, if there is a folder and the trace has no legal schedule, and gives their name.

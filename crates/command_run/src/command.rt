@@ -11,12 +11,13 @@ use crate::asked_file::{close_asked, make_asked};
 use crate::clash::{clash_of, print_clash};
 use crate::engine_run::EngineRun;
 use crate::engine_runs::run_engine;
-use crate::explaining::{explain_outcome, explain_unmade};
+use crate::explaining::{EndedLine, explain_outcome, explain_unmade};
 use crate::kept_run::KeptRun;
 use crate::picturing::draw_outcome;
+use crate::program_run::ProgramRun;
 use crate::telling::{DEVICE, tell_fault, tell_line_fault, tell_outcome};
 use command_host::{FailedFile, Host, Recalls};
-use command_line::{CommandLine, Explains, Line, read_line};
+use command_line::{CommandLine, Explains, read_line};
 use cube_jobs::Gate;
 use dimacs::Sink;
 use std::alloc::Global;
@@ -26,35 +27,35 @@ use verdict_report::{Fault, exit_status};
 
 /// Runs the engine of the line, reports a refusal on standard error, and explains the outcome there if that is asked for.
 fn run_asked<'p, R: Threads + Wait + Sync, G: Gate + Sync, H: Host<'p>, O: Sink + Recalls, E: Sink>(
-    alloc: Global,
-    rt: &R,
-    progress: &G,
+    program: &ProgramRun<'_, R, G>,
     host: &mut H,
-    line: &Line<'p>,
-    explains: Explains,
-    is_terminal: bool,
+    asked: &CommandLine<'p>,
     out: &mut O,
     err: &mut E,
     kept: &mut KeptRun,
 ) -> u8
-    requires { IsWithinRanges line.now }
-    ensures ends { EndsAsked (is_explained is_terminal explains) H.calls (source_view H.Input.handed_out H.Input.is_at_end H.Input.failures H.Input.path)
+    requires { IsWithinRanges asked.now.line }
+    ensures ends { EndsAsked (is_explained program.now.is_terminal asked.now.explains) H.calls (source_view H.Input.handed_out H.Input.is_at_end H.Input.failures H.Input.path)
         (sink_view H.Output.written H.Output.failures H.Output.path)
-        host.old line.now
+        host.old asked.now.line
         (sink_run O.written O.failures out.old out.new)
         (sink_run E.written E.failures err.old err.new)
         result host.new }
     ensures known { IsExitStatus result }
 {
     let run = EngineRun {
-        alloc,
-        rt,
-        progress,
+        alloc: program.alloc,
+        rt: program.rt,
+        progress: program.progress,
     };
-    let outcome = run_engine(&run, host, line, out, kept);
+    let outcome = run_engine(&run, host, &asked.line, out, kept);
     tell_outcome(&outcome, err);
-    if explains.is_wanted(is_terminal) {
-        explain_outcome(alloc, host.failed_file(), line, &outcome, out, kept, err);
+    if asked.explains.is_wanted(program.is_terminal) {
+        let ended = EndedLine {
+            line: &asked.line,
+            outcome: &outcome,
+        };
+        explain_outcome(program.alloc, host.failed_file(), ended, out, kept, err);
     }
     exit_status(&outcome)
 }
@@ -86,24 +87,23 @@ fn report_without_file<E: Sink>(
 
 /// Runs the engine of the line, and draws a picture if there is a path for one. Its file is made or opened first.
 fn run_drawn<'p, R: Threads + Wait + Sync, G: Gate + Sync, H: Host<'p>, O: Sink + Recalls, E: Sink>(
-    alloc: Global,
-    rt: &R,
-    progress: &G,
+    program: &ProgramRun<'_, R, G>,
     host: &mut H,
     asked: &CommandLine<'p>,
-    is_terminal: bool,
     out: &mut O,
     err: &mut E,
 ) -> u8
     requires { IsWithinRanges asked.now.line }
     ensures ends { EndsDrawn asked.now.picture H.calls (source_view H.Input.handed_out H.Input.is_at_end H.Input.failures H.Input.path)
         (sink_view H.Output.written H.Output.failures H.Output.path)
-        is_terminal host.old asked.now
+        program.now.is_terminal host.old asked.now
         (sink_run O.written O.failures out.old out.new)
         (sink_run E.written E.failures err.old err.new)
         result host.new }
     ensures known { IsExitStatus result }
 {
+    let alloc = program.alloc;
+    let is_terminal = program.is_terminal;
     let Ok(mut file) = make_asked(host, asked.picture) else {
         report_without_file(alloc, host.failed_file(), asked.explains, is_terminal, err);
         return DEVICE;
@@ -111,18 +111,7 @@ fn run_drawn<'p, R: Threads + Wait + Sync, G: Gate + Sync, H: Host<'p>, O: Sink 
     // Texts are kept only if something is made of them after the run: a picture or an explanation.
     let is_drawn = asked.picture.is_some();
     let mut kept = KeptRun::new(is_drawn || asked.explains.is_wanted(is_terminal));
-    let status = run_asked(
-        alloc,
-        rt,
-        progress,
-        host,
-        &asked.line,
-        asked.explains,
-        is_terminal,
-        out,
-        err,
-        &mut kept,
-    );
+    let status = run_asked(program, host, asked, out, err, &mut kept);
     // This comes after the explanation, and what fails of it changes neither that nor the status.
     draw_outcome(alloc, &asked.line, status, is_drawn, &kept, &mut file);
     close_asked(host, file);
@@ -132,34 +121,31 @@ fn run_drawn<'p, R: Threads + Wait + Sync, G: Gate + Sync, H: Host<'p>, O: Sink 
 /// Does what the words of a command line ask for, of which the first is the program's name, and gives the exit status.
 ///
 /// The engine that the words name is run on the files at their paths and with their options. Standard output takes what the engine writes,
-/// standard error the line of a refusal, and nothing else goes to either of them. With `--progress` the gate `progress` is called before
+/// standard error the line of a refusal, and nothing else goes to either of them. With `--progress` the gate of the program is called before
 /// and after each cube, and what it writes to standard error it writes by itself. With `--explain`, or if standard error is a terminal, it
 /// then takes an explanation, and with `--picture` a further file takes a picture after CONSISTENT or INCONSISTENT; of what these two are,
 /// nothing is said. A line of which two files are one that have to be apart is refused. Of words that ask for nothing, standard output
 /// takes the help or the version, or standard error what is wrong with them.
 pub fn run<'p, R: Threads + Wait + Sync, G: Gate + Sync, H: Host<'p>, O: Sink + Recalls, E: Sink>(
-    alloc: Global,
-    rt: &R,
-    progress: &G,
+    program: &ProgramRun<'_, R, G>,
     host: &mut H,
     words: &'p [&'p str],
-    is_terminal: bool,
     out: &mut O,
     err: &mut E,
 ) -> u8
     ensures ends { EndsWords H.calls (source_view H.Input.handed_out H.Input.is_at_end H.Input.failures H.Input.path)
         (sink_view H.Output.written H.Output.failures H.Output.path)
-        is_terminal host.old (texts words.now)
+        program.now.is_terminal host.old (texts words.now)
         (sink_run O.written O.failures out.old out.new)
         (sink_run E.written E.failures err.old err.new)
         result host.new }
     ensures known { IsExitStatus result }
 {
-    match read_line(alloc, words) {
+    match read_line(program.alloc, words) {
         Ok(asked) => match clash_of(host, &asked) {
             Some(clash) => print_clash(clash, err),
-            None => run_drawn(alloc, rt, progress, host, &asked, is_terminal, out, err),
+            None => run_drawn(program, host, &asked, out, err),
         },
-        Err(fault) => tell_line_fault(alloc, &fault, out, err),
+        Err(fault) => tell_line_fault(program.alloc, &fault, out, err),
     }
 }

@@ -30,8 +30,8 @@ use std::alloc::Global;
 use std::sync::Wait;
 use std::thread::Threads;
 use verdict_report::{
-    Fault, Status, run_certified_verify, run_cnf, run_decode, run_judge, run_lrat, run_recheck,
-    run_verify,
+    Fault, Status, VerifyRun, run_certified_verify, run_cnf, run_decode, run_judge, run_lrat,
+    run_recheck, run_verify,
 };
 
 /// The files of a certificate that is checked for a part.
@@ -242,15 +242,13 @@ fn certify_file<'p, R: Threads + Wait + Sync, G: Gate + Sync, H: Host<'p>, W: Si
     let mut file = Recorder::counting(run.alloc, file);
     host.begin_search(search);
     let gate = AskedGate::new(run.progress, search.tells_progress);
-    let outcome = run_certified_verify(
-        run.alloc,
-        run.rt,
-        &mut trace,
-        &search.options,
-        &gate,
-        &mut file,
-        out,
-    );
+    let verify = VerifyRun {
+        alloc: run.alloc,
+        rt: run.rt,
+        options: &search.options,
+        gate: &gate,
+    };
+    let outcome = run_certified_verify(&verify, &mut trace, &mut file, out);
     kept.first = trace.into_text();
     kept.certificate_length = Some(file.taken());
     host.close(file.into_sink());

@@ -11,6 +11,15 @@ use note_text::{NamedText, Notes};
 use std::alloc::Global;
 use verdict_report::{Fault, Status};
 
+/// A line, and how its run ended.
+#[derive(Clone, Copy)]
+pub(crate) struct EndedLine<'a, 'p> {
+    /// The line.
+    pub(crate) line: &'a Line<'p>,
+    /// The outcome of its engine.
+    pub(crate) outcome: &'a Result<Status, Fault>,
+}
+
 /// A text that a line reads: its bytes if they were kept, and what failed, in words without the name of its file, which notes add.
 #[derive(Drop)]
 struct InputText<'k> {
@@ -168,21 +177,18 @@ fn asked_command<'t>(
     }
 }
 
-/// The explanation of the outcome, as lines.
-fn notes_of<'t>(
+/// The explanation of the outcome of what was asked, as lines, or no line if no command is explained.
+fn notes_of(
     alloc: Global,
-    line: &'t Line<'t>,
-    texts: &'t InputTexts<'t>,
+    asked: Option<AskedCommand<'_>>,
     outcome: &Result<Status, Fault>,
-    report: Option<&'t [u8]>,
-    length: Option<u64>,
-    written: &'t Option<String>,
+    written: &Option<String>,
 ) -> Vec<u8> {
     let written = match written {
         Some(words) => Some(words.as_bytes()),
         None => None,
     };
-    match asked_command(line, texts, report, length) {
+    match asked {
         Some(asked) => explain(alloc, &asked, outcome, written),
         None => Vec::new(alloc),
     }
@@ -214,8 +220,7 @@ fn notes_of_lost(alloc: Global) -> Vec<u8> {
 fn notes_of_run<O: Recalls>(
     alloc: Global,
     failed: Option<FailedFile<'_>>,
-    line: &Line<'_>,
-    outcome: &Result<Status, Fault>,
+    ended: EndedLine<'_, '_>,
     out: &O,
     kept: &KeptRun,
 ) -> Vec<u8> {
@@ -224,30 +229,22 @@ fn notes_of_run<O: Recalls>(
     }
     let texts = input_texts(alloc, kept);
     let written = failed_writing(alloc, failed, out.failure());
-    notes_of(
-        alloc,
-        line,
-        &texts,
-        outcome,
-        out.recalled(),
-        kept.certificate_length,
-        &written,
-    )
+    let asked = asked_command(ended.line, &texts, out.recalled(), kept.certificate_length);
+    notes_of(alloc, asked, ended.outcome, &written)
 }
 
 /// Explains the outcome on standard error.
 pub(crate) fn explain_outcome<O: Recalls, E: Sink>(
     alloc: Global,
     failed: Option<FailedFile<'_>>,
-    line: &Line<'_>,
-    outcome: &Result<Status, Fault>,
+    ended: EndedLine<'_, '_>,
     out: &O,
     kept: &KeptRun,
     err: &mut E,
 )
     ensures { Adds (sink_run E.written E.failures err.old err.new) }
 {
-    let notes = notes_of_run(alloc, failed, line, outcome, out, kept);
+    let notes = notes_of_run(alloc, failed, ended, out, kept);
     write_notes(notes.as_slice(), err);
 }
 

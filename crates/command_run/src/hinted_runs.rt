@@ -21,7 +21,7 @@ use dimacs::Sink;
 use std::sync::Wait;
 use std::thread::Threads;
 use survey::BySaturation;
-use survey_report::{run_certified_survey, run_survey};
+use survey_report::{CoreSinks, run_certified_survey, run_survey};
 use survey_verdict::SurveyRun;
 use verdict_report::{Fault, Source, Status};
 
@@ -96,23 +96,21 @@ pub(crate) fn certify_with<
     asked: &AskedSurvey<'_, 'p, R, G>,
     host: &mut H,
     trace: &mut T,
-    cert: &mut C,
-    names: &mut N,
-    part: &mut P,
+    sinks: &mut CoreSinks<C, N, P>,
     out: &mut W,
     kept: &mut KeptRun,
 ) -> Result<Status, Fault>
     ensures certifies { CertifiesHinted H.calls (source_view H.Input.handed_out H.Input.is_at_end H.Input.failures H.Input.path)
         host.old (source_run T.handed_out T.is_at_end T.failures trace.old trace.new) asked.now.inputs.hint asked.now.search.now
-        (sink_run C.written C.failures cert.old cert.new)
-        (sink_run N.written N.failures names.old names.new)
-        (sink_run P.written P.failures part.old part.new)
+        (sink_run C.written C.failures sinks.old.cert sinks.new.cert)
+        (sink_run N.written N.failures sinks.old.names sinks.new.names)
+        (sink_run P.written P.failures sinks.old.part sinks.new.part)
         (sink_run W.written W.failures out.old out.new)
         result host.new }
     ensures same_trace { T.path trace.new ≡ T.path trace.old }
-    ensures same_cert { C.path cert.new ≡ C.path cert.old }
-    ensures same_names { N.path names.new ≡ N.path names.old }
-    ensures same_part { P.path part.new ≡ P.path part.old }
+    ensures same_cert { C.path sinks.new.cert ≡ C.path sinks.old.cert }
+    ensures same_names { N.path sinks.new.names ≡ N.path sinks.old.names }
+    ensures same_part { P.path sinks.new.part ≡ P.path sinks.old.part }
 {
     let mut hint = open_asked(asked.run.alloc, host, asked.inputs.hint, kept.keeps);
     host.begin_search(asked.search);
@@ -124,7 +122,7 @@ pub(crate) fn certify_with<
         options: &asked.search.options,
         gate: &gate,
     };
-    let outcome = run_certified_survey(&run, &surveyor, trace, &mut hint, cert, names, part, out);
+    let outcome = run_certified_survey(&run, &surveyor, trace, &mut hint, sinks, out);
     kept.second = hint.into_text();
     outcome
 }

@@ -21,6 +21,7 @@ use cube_jobs::Gate;
 use dimacs::Sink;
 use std::sync::Wait;
 use std::thread::Threads;
+use survey_report::CoreSinks;
 use verdict_report::{Fault, Status};
 
 /// The files of a survey.
@@ -61,78 +62,80 @@ fn certify_opened<
 >(
     asked: &AskedSurvey<'_, 'p, R, G>,
     host: &mut H,
-    cert: &mut C,
-    names: &mut N,
-    part: &mut P,
+    sinks: &mut CoreSinks<C, N, P>,
     out: &mut W,
     kept: &mut KeptRun,
 ) -> Result<Status, Fault>
     ensures runs { CertifiesSurveyed H.calls (source_view H.Input.handed_out H.Input.is_at_end H.Input.failures H.Input.path)
         host.old asked.now.inputs asked.now.search.now
-        (sink_run C.written C.failures cert.old cert.new)
-        (sink_run N.written N.failures names.old names.new)
-        (sink_run P.written P.failures part.old part.new)
+        (sink_run C.written C.failures sinks.old.cert sinks.new.cert)
+        (sink_run N.written N.failures sinks.old.names sinks.new.names)
+        (sink_run P.written P.failures sinks.old.part sinks.new.part)
         (sink_run W.written W.failures out.old out.new)
         result host.new }
-    ensures same_cert { C.path cert.new ≡ C.path cert.old }
-    ensures same_names { N.path names.new ≡ N.path names.old }
-    ensures same_part { P.path part.new ≡ P.path part.old }
+    ensures same_cert { C.path sinks.new.cert ≡ C.path sinks.old.cert }
+    ensures same_names { N.path sinks.new.names ≡ N.path sinks.old.names }
+    ensures same_part { P.path sinks.new.part ≡ P.path sinks.old.part }
 {
     let mut trace = open(asked.run.alloc, host, asked.inputs.trace, kept.keeps);
-    let outcome = certify_with(asked, host, &mut trace, cert, names, part, out, kept);
+    let outcome = certify_with(asked, host, &mut trace, sinks, out, kept);
     kept.first = trace.into_text();
     outcome
 }
 
-/// Does so with two sinks, and a file for the part if there is a path for it. It is made or opened first, and `Device` is answered if that is not possible.
+/// Does so with two sinks, and a file for the part if there is a path for it. It is made or opened first, and `Device` is answered if that is not
+/// possible. The sinks are given back.
 fn with_part<'p, R: Threads + Wait + Sync, G: Gate + Sync, H: Host<'p>, C: Sink, N: Sink, W: Sink>(
     asked: &AskedSurvey<'_, 'p, R, G>,
     host: &mut H,
-    cert: &mut C,
-    names: &mut N,
+    cert: C,
+    names: N,
     out: &mut W,
     kept: &mut KeptRun,
-) -> Result<Status, Fault>
+) -> (Result<Status, Fault>, C, N)
     ensures runs { TakesPart H.calls (source_view H.Input.handed_out H.Input.is_at_end H.Input.failures H.Input.path)
         (sink_view H.Output.written H.Output.failures H.Output.path)
         host.old asked.now.inputs asked.now.files.part asked.now.search.now
-        (sink_run C.written C.failures cert.old cert.new)
-        (sink_run N.written N.failures names.old names.new)
+        (sink_run C.written C.failures cert result.1)
+        (sink_run N.written N.failures names result.2)
         (sink_run W.written W.failures out.old out.new)
-        result host.new }
-    ensures same_cert { C.path cert.new ≡ C.path cert.old }
-    ensures same_names { N.path names.new ≡ N.path names.old }
+        result.0 host.new }
+    ensures same_cert { C.path result.1 ≡ C.path cert }
+    ensures same_names { N.path result.2 ≡ N.path names }
 {
-    let Ok(mut part) = make_asked(host, asked.files.part) else {
-        return Err(Fault::Device);
+    let Ok(part) = make_asked(host, asked.files.part) else {
+        return (Err(Fault::Device), cert, names);
     };
-    let outcome = certify_opened(asked, host, cert, names, &mut part, out, kept);
+    let mut sinks = CoreSinks { cert, names, part };
+    let outcome = certify_opened(asked, host, &mut sinks, out, kept);
+    let CoreSinks { cert, names, part } = sinks;
     close_asked(host, part);
-    outcome
+    (outcome, cert, names)
 }
 
-/// Does so with the certificate's sink, and a file for the names if there is a path for it, which is made or opened before that for the part.
+/// Does so with the certificate's sink, and a file for the names if there is a path for it, which is made or opened before that for the part. The sink is
+/// given back.
 fn with_names<'p, R: Threads + Wait + Sync, G: Gate + Sync, H: Host<'p>, C: Sink, W: Sink>(
     asked: &AskedSurvey<'_, 'p, R, G>,
     host: &mut H,
-    cert: &mut C,
+    cert: C,
     out: &mut W,
     kept: &mut KeptRun,
-) -> Result<Status, Fault>
+) -> (Result<Status, Fault>, C)
     ensures runs { TakesNamesAndPart H.calls (source_view H.Input.handed_out H.Input.is_at_end H.Input.failures H.Input.path)
         (sink_view H.Output.written H.Output.failures H.Output.path)
         host.old asked.now.inputs asked.now.files.names asked.now.files.part asked.now.search.now
-        (sink_run C.written C.failures cert.old cert.new)
+        (sink_run C.written C.failures cert result.1)
         (sink_run W.written W.failures out.old out.new)
-        result host.new }
-    ensures same_cert { C.path cert.new ≡ C.path cert.old }
+        result.0 host.new }
+    ensures same_cert { C.path result.1 ≡ C.path cert }
 {
-    let Ok(mut names) = make_asked(host, asked.files.names) else {
-        return Err(Fault::Device);
+    let Ok(names) = make_asked(host, asked.files.names) else {
+        return (Err(Fault::Device), cert);
     };
-    let outcome = with_part(asked, host, cert, &mut names, out, kept);
+    let (outcome, cert, names) = with_part(asked, host, cert, names, out, kept);
     close_asked(host, names);
-    outcome
+    (outcome, cert)
 }
 
 /// Does so with a file for each that there is a path for. That for the certificate is made or opened first.
@@ -148,10 +151,10 @@ fn with_core<'p, R: Threads + Wait + Sync, G: Gate + Sync, H: Host<'p>, W: Sink>
         (sink_run W.written W.failures out.old out.new)
         result host.new }
 {
-    let Ok(mut cert) = make_asked(host, asked.files.cert) else {
+    let Ok(cert) = make_asked(host, asked.files.cert) else {
         return Err(Fault::Device);
     };
-    let outcome = with_names(asked, host, &mut cert, out, kept);
+    let (outcome, cert) = with_names(asked, host, cert, out, kept);
     close_asked(host, cert);
     outcome
 }

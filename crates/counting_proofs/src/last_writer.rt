@@ -16,6 +16,14 @@ struct Defined {
     only: u32,
 }
 
+/// The writers of a location, and what is cited of them.
+#[derive(Clone, Copy)]
+struct CitedWriters<'a> {
+    ending: &'a LastWriters,
+    known: KnownOrder<'a>,
+    units: &'a UnitTable,
+}
+
 /// Adds the definition of a literal which says that this candidate is the last writer: all others stand before it. The long clause is added
 /// first: the short ones are RAT on the new variable, and their hints name it. They follow one after the other by rising numbers of writers,
 /// as `ReadsFromEdge` counts on from the first to the one against a given writer.
@@ -53,13 +61,16 @@ fn define_last(
 fn add_clause(
     alloc: Global,
     log: &mut StepLog,
-    ending: &LastWriters,
-    known: KnownOrder<'_>,
-    units: &UnitTable,
+    cited: CitedWriters<'_>,
     elimination: &mut Elimination,
     candidate: u32,
     defined: Defined,
 ) -> Result<(), AllocError> {
+    let CitedWriters {
+        ending,
+        known,
+        units,
+    } = cited;
     let place = elimination.place_of(candidate);
     let mut literals = Vec::new(alloc);
     let mut hints = Vec::new(alloc);
@@ -135,19 +146,15 @@ pub fn add_last_writer(
     // Of each candidate a clause says that it is the last writer, or that another comes behind it. Once all are eliminated, what is left is the
     // clause that one of them is the last writer.
     let mut elimination = Elimination::of(alloc, known.order, Side::Behind, operations, own)?;
+    let cited = CitedWriters {
+        ending,
+        known,
+        units,
+    };
     for place in 0..size(ending.candidates()) {
         let candidate = at(ending.candidates(), place, 0);
         let its = at(defined.as_slice(), place, nothing);
-        add_clause(
-            alloc,
-            log,
-            ending,
-            known,
-            units,
-            &mut elimination,
-            candidate,
-            its,
-        )?;
+        add_clause(alloc, log, cited, &mut elimination, candidate, its)?;
     }
     let clause = elimination.run(alloc, log)?;
     with_last_reader(alloc, reads, ending, defined.as_slice(), clause)

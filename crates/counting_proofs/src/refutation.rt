@@ -13,13 +13,15 @@ use proof_log::within;
 use source_matching::{Kind, KnownOrder, MatchingInstance, SourceContradiction};
 use std::alloc::{AllocError, Global};
 
-/// The premises: steps with which the derivation begins, and for each literal on which a contradiction rests the number of its unit
-/// clause.
+/// The premises: steps with which the derivation begins, for each literal on which a contradiction rests the number of its unit
+/// clause, and which numbers are free.
 #[derive(Drop)]
 pub struct Premises<'a> {
     pub steps: Vec<Step>,
     /// The numbers of the unit clauses, in the order of the contradiction's `rests_on`.
     pub clauses: &'a [u32],
+    /// The numbers that the formula and the steps leave free. The additions of the steps have smaller ones.
+    pub free: Free,
 }
 
 /// Adds all steps. The last one is the empty clause.
@@ -46,20 +48,23 @@ fn add_lines(
 /// Writes a derivation of the contradiction, if it surely takes no more steps than the budget has. The bound is asked before the first step
 /// is made: 79 sources take 785,888 lines, which would be made in vain.
 ///
-/// It begins with the given steps, which say why choices are excluded; their additions have smaller numbers than the free ones. What it
-/// cites of the formula is what `reads` and `known` say; if that is wrong, the checker refuses the derivation.
+/// It begins with the given steps, which say why choices are excluded. What it cites of the formula is what `reads` and `known` say; if that
+/// is wrong, the checker refuses the derivation.
 pub fn refute(
     alloc: Global,
     given: Premises<'_>,
     reads: &MatchingInstance,
     contradiction: &SourceContradiction,
     known: KnownOrder<'_>,
-    free: Free,
     budget: u64,
 ) -> Result<Option<Derivation>, AllocError>
     ensures { IfOk result (λ found. IfSome found (λ derivation. length derivation ≤ budget)) }
 {
-    let Premises { steps, clauses } = given;
+    let Premises {
+        steps,
+        clauses,
+        free,
+    } = given;
     let expected = contradiction
         .most_steps()
         .saturating_add(steps.len() as u64);

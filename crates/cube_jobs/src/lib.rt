@@ -9,6 +9,7 @@ mod models;
 pub mod options;
 mod outcome;
 mod search_fault;
+mod search_run;
 
 pub use gate::{Gate, OpenGate, Stage};
 pub use job::{Job, Settled};
@@ -17,3 +18,4 @@ pub use models::is_model_in;
 pub use options::{BadOption, Options};
 pub use outcome::Outcome;
 pub use search_fault::{SearchCause, SearchFault};
+pub use search_run::SearchRun;

@@ -4,7 +4,8 @@ ghost use Rattle.cube_jobs.specs.Results.{AreLeaves, AreResultsOf, HasModel};
 ghost use Rattle.cube_tree.specs.CubeTree.{cubes_of};
 
 use crate::leaf_jobs::job_of;
-use crate::settling::{is_model_result, settle_job};
+use crate::settler::Settler;
+use crate::settling::{CubeSettler, is_model_result};
 use cube_jobs::{Gate, Settled};
 use cube_tree::{Tree, cubes};
 use dimacs::ClauseList;
@@ -32,28 +33,25 @@ fn knows_model<L: ClauseList>(formula: &L, known_before: bool, results: &[Settle
 /// model all that come are higher, and are skipped.
 pub(crate) fn search_in_turn<L: ClauseList, S: CubeSolver, G: Gate>(
     alloc: Global,
-    formula: &L,
-    solver: &S,
+    settler: &CubeSettler<L, S, G>,
     tree: &Tree,
     which: &[u32],
-    budget: u64,
-    gate: &G,
 ) -> Result<Vec<Settled>, AllocError>
     requires { AreLeaves (cubes_of tree.now) which.now }
-    ensures { IfOk result (λ results. AreResultsOf (L.formula formula.now).clauses (cubes_of tree.now) which.now results.items) }
+    ensures { IfOk result (λ results. AreResultsOf (L.formula settler.now.formula.now).clauses (cubes_of tree.now) which.now results.items) }
 {
     let cubes = cubes(alloc, tree)?;
     let mut results = Vec::with_capacity(alloc, which.len())?;
     let mut has_model = false;
     for leaf in which {
         // What the last leaf says is not looked at here: no leaf comes after it that could be skipped.
-        has_model = knows_model(formula, has_model, results.as_slice());
+        has_model = knows_model(settler.formula, has_model, results.as_slice());
         let job = job_of(alloc, cubes.as_slice(), *leaf);
-        gate.before(0, *leaf);
-        let settled = settle_job(alloc, solver, job, budget, has_model);
-        gate.conflicts(solver.take_conflicts());
+        settler.report_taken(0, *leaf);
+        let settled = settler.settle(job, has_model);
+        settler.report_conflicts();
         results.push(settled)?;
-        gate.after(0, *leaf);
+        settler.report_settled(0, *leaf);
     }
     Ok(results)
 }

@@ -10,7 +10,7 @@ use crate::putting::{deal, put_stops};
 use crate::settler::Settler;
 use crate::shared_search::SharedSearch;
 use crate::starting::start_all;
-use cube_jobs::{Gate, SearchCause, SearchFault};
+use cube_jobs::{SearchCause, SearchFault};
 use std::alloc::Global;
 use std::sync::Wait;
 use std::thread;
@@ -19,13 +19,12 @@ use text_lines::plain_fault::PlainFault;
 
 /// Starts a thread for each worker, puts all jobs, gathers their results, and joins the threads. A stop ticket is put for each worker
 /// whatever has failed before, so each thread that was started ends. No job is put where one could not be started.
-fn run_members<'s, E, R: Threads + Wait + Sync, S: Settler + Sync, G: Gate + Sync>(
+fn run_members<'s, E, R: Threads + Wait + Sync, S: Settler + Sync>(
     alloc: Global,
     rt: &'s R,
     scope: &Scope<'s, E>,
     site: &'s SharedSearch,
     settler: &'s S,
-    gate: &'s G,
     crew: Participants,
 ) -> Result<Returned, SearchFault>
     requires { IsCrewAt site.now crew }
@@ -40,7 +39,7 @@ fn run_members<'s, E, R: Threads + Wait + Sync, S: Settler + Sync, G: Gate + Syn
     } = crew;
     let count = jobs.len();
     // If this fails, the scope still joins the threads that were started, so these need their stop tickets.
-    let handles = match start_all(alloc, rt, scope, site, settler, gate, members) {
+    let handles = match start_all(alloc, rt, scope, site, settler, members) {
         Ok(handles) => handles,
         Err(fault) => {
             put_stops(alloc, rt, &site.board, &mut dealer);
@@ -62,12 +61,11 @@ fn run_members<'s, E, R: Threads + Wait + Sync, S: Settler + Sync, G: Gate + Syn
 }
 
 /// Runs the search of these participants: each worker works in a thread of its own, and this thread deals and gathers.
-pub(crate) fn run<R: Threads + Wait + Sync, S: Settler + Sync, G: Gate + Sync>(
+pub(crate) fn run<R: Threads + Wait + Sync, S: Settler + Sync>(
     alloc: Global,
     rt: &R,
     site: &SharedSearch,
     settler: &S,
-    gate: &G,
     crew: Participants,
 ) -> Result<Returned, SearchFault>
     requires { IsCrewAt site.now crew }
@@ -81,6 +79,6 @@ pub(crate) fn run<R: Threads + Wait + Sync, S: Settler + Sync, G: Gate + Sync>(
             requires { IsCrewAt site.now crew }
             ensures returned { IfOk result (λ returned. HasRun (S.clauses settler.entry.now) site.entry.now crew returned) }
             ensures fault { IfErr result (λ fault. IsFaultAt site.entry.now.board crew.jobs.items fault) }
-        { run_members(alloc, rt, scope, site, settler, gate, crew) },
+        { run_members(alloc, rt, scope, site, settler, crew) },
     )
 }

@@ -28,11 +28,10 @@ fn search_in_threads<
 >(
     alloc: Global,
     rt: &R,
-    settler: &CubeSettler<L, S>,
+    settler: &CubeSettler<L, S, G>,
     tree: &Tree,
     which: &[u32],
     workers: u32,
-    gate: &G,
 ) -> Result<Vec<Settled>, SearchFault>
     requires leaves { AreLeaves (cubes_of tree.now) which.now }
     requires workers { (2 ≤ workers) × (workers ≤ 8) }
@@ -43,7 +42,7 @@ fn search_in_threads<
     let cubes = bounded_cubes(alloc, tree)?;
     let jobs = jobs_of(alloc, cubes.as_slice(), which)?;
     let (site, crew) = open(alloc, workers, cubes.len() as u32, jobs)?;
-    let returned = run(alloc, rt, &site, settler, gate, crew)?;
+    let returned = run(alloc, rt, &site, settler, crew)?;
     let results = close(alloc, rt, site, returned)?;
     Ok(results)
 }
@@ -75,14 +74,16 @@ pub fn search<R: Threads + Wait + Sync, L: ClauseList + Sync, S: CubeSolver + Sy
     gate.begin_round(which.len());
     let workers = needed(options.workers(), which.len());
     let budget = options.budget();
-    if workers < 2 {
-        let results = search_in_turn(alloc, formula, solver, tree, which, budget, gate)?;
-        return Ok(results);
-    }
     let settler = CubeSettler {
+        alloc,
         formula,
         solver,
         budget,
+        gate,
     };
-    search_in_threads(alloc, rt, &settler, tree, which, workers, gate)
+    if workers < 2 {
+        let results = search_in_turn(alloc, &settler, tree, which)?;
+        return Ok(results);
+    }
+    search_in_threads(alloc, rt, &settler, tree, which, workers)
 }

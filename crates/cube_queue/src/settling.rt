@@ -4,32 +4,47 @@ ghost use Rattle.cube_jobs.specs.declared.outcome.Outcome.TheVariants.{Skipped};
 ghost use Rattle.cube_jobs.specs.Models.{IsModelResult};
 
 use crate::settler::Settler;
-use cube_jobs::{Job, Outcome, Settled, is_model_in};
+use cube_jobs::{Gate, Job, Outcome, Settled, is_model_in};
 use dimacs::{ClauseList, Lit};
 use proof_log::{Answer, CubeSolver};
 use std::alloc::Global;
 
-/// A formula, a solver of its cubes, and how many conflicts are worked on in a cube. The formula is there to try models on, and the solver has its own form of it.
+/// What jobs are settled with, by workers in threads or by one in the caller's.
 #[derive(Clone, Copy)]
-pub(crate) struct CubeSettler<'a, L, S> {
+pub(crate) struct CubeSettler<'a, L, S, G> {
+    /// Where memory is taken for the search of a cube.
+    pub(crate) alloc: Global,
+    /// The formula, to try models on. The solver has its own form of it.
     pub(crate) formula: &'a L,
+    /// The solver of its cubes.
     pub(crate) solver: &'a S,
+    /// Conflicts per cube.
     pub(crate) budget: u64,
+    /// What sees each job before it is settled, and after.
+    pub(crate) gate: &'a G,
 }
 
-impl<'a, L: ClauseList, S: CubeSolver> Settler for CubeSettler<'a, L, S> {
+impl<'a, L: ClauseList, S: CubeSolver, G: Gate> Settler for CubeSettler<'a, L, S, G> {
     ghost clauses = { λ settler. (L.formula settler.formula.now).clauses };
 
-    fn settle(&self, alloc: Global, job: Job, skips: bool) -> Settled {
-        settle_job(alloc, self.solver, job, self.budget, skips)
+    fn settle(&self, job: Job, skips: bool) -> Settled {
+        settle_job(self.alloc, self.solver, job, self.budget, skips)
     }
 
     fn confirms(&self, settled: &Settled) -> bool {
         is_model_result(self.formula, settled)
     }
 
-    fn take_conflicts(&self) -> u64 {
-        self.solver.take_conflicts()
+    fn report_taken(&self, worker: u32, ticket: u32) {
+        self.gate.before(worker, ticket);
+    }
+
+    fn report_conflicts(&self) {
+        self.gate.conflicts(self.solver.take_conflicts());
+    }
+
+    fn report_settled(&self, worker: u32, ticket: u32) {
+        self.gate.after(worker, ticket);
     }
 }
 
@@ -46,7 +61,7 @@ fn outcome_of<S: CubeSolver>(alloc: Global, solver: &S, cube: &[Lit], budget: u6
 }
 
 /// Settles the job: its cube is searched, or skipped if a model in a lower leaf makes it unneeded.
-pub(crate) fn settle_job<S: CubeSolver>(
+fn settle_job<S: CubeSolver>(
     alloc: Global,
     solver: &S,
     job: Job,

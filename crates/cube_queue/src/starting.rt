@@ -10,7 +10,7 @@ use crate::promised::WorkerOf;
 use crate::settler::Settler;
 use crate::shared_search::SharedSearch;
 use crate::working::work;
-use cube_jobs::{Gate, SearchCause, SearchFault};
+use cube_jobs::{SearchCause, SearchFault};
 use std::alloc::Global;
 use std::snapshot::Snapshot;
 use std::sync::Wait;
@@ -18,13 +18,12 @@ use std::thread::{PromisedHandle, Scope};
 use text_lines::plain_fault::PlainFault;
 
 /// Starts a thread in which this worker works.
-fn start<'s, E, R: Wait + Sync, S: Settler + Sync, G: Gate + Sync>(
+fn start<'s, E, R: Wait + Sync, S: Settler + Sync>(
     alloc: Global,
     rt: &'s R,
     scope: &Scope<'s, E>,
     site: &'s SharedSearch,
     settler: &'s S,
-    gate: &'s G,
     member: Worker,
 ) -> Result<PromisedHandle<Worker, WorkerOf<S>>, SearchFault>
     requires ready { IsReady site.now member }
@@ -41,7 +40,7 @@ fn start<'s, E, R: Wait + Sync, S: Settler + Sync, G: Gate + Sync>(
         move || -> Worker
             requires { IsReady site.now member }
             ensures { HasWorked (S.clauses settler.entry.now) site.entry.now member result }
-        { work(alloc, rt, site, settler, gate, member) },
+        { work(alloc, rt, site, settler, member) },
     ) {
         Ok(handle) => Ok(handle),
         Err(_refused) => Err(PlainFault::For(SearchCause::NoThread)),
@@ -50,13 +49,12 @@ fn start<'s, E, R: Wait + Sync, S: Settler + Sync, G: Gate + Sync>(
 
 /// Starts a thread for each of these workers. Gives the threads' handles in the order of the workers, or, if a thread cannot be started or
 /// memory runs out, the refusal: the threads that were started work on then, until the caller puts stop tickets.
-pub(crate) fn start_all<'s, E, R: Wait + Sync, S: Settler + Sync, G: Gate + Sync>(
+pub(crate) fn start_all<'s, E, R: Wait + Sync, S: Settler + Sync>(
     alloc: Global,
     rt: &'s R,
     scope: &Scope<'s, E>,
     site: &'s SharedSearch,
     settler: &'s S,
-    gate: &'s G,
     members: Vec<Worker>,
 ) -> Result<Vec<PromisedHandle<Worker, WorkerOf<S>>>, SearchFault>
     requires { All (IsReady site.now) members.items }
@@ -67,7 +65,7 @@ pub(crate) fn start_all<'s, E, R: Wait + Sync, S: Settler + Sync, G: Gate + Sync
 {
     let mut handles = Vec::with_capacity(alloc, members.len())?;
     for member in members {
-        handles.push(start(alloc, rt, scope, site, settler, gate, member)?)?;
+        handles.push(start(alloc, rt, scope, site, settler, member)?)?;
     }
     Ok(handles)
 }

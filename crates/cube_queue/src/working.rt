@@ -10,7 +10,7 @@ ghost use Rattle.cube_queue.specs.Workers.{IsHonest, IsReady, HasWorked};
 use crate::participants::Worker;
 use crate::settler::Settler;
 use crate::shared_search::SharedSearch;
-use cube_jobs::{Gate, Job, Settled};
+use cube_jobs::{Job, Settled};
 use job_board::WorkerSeat;
 use std::alloc::Global;
 use std::sync::Wait;
@@ -27,11 +27,9 @@ fn is_past(shown: Option<u32>, ticket: u32) -> bool
 }
 
 /// Looks at the stop word and settles the job, which is skipped where a lower ticket is marked.
-fn look_and_settle<S: Settler, G: Gate>(
-    alloc: Global,
+fn look_and_settle<S: Settler>(
     site: &SharedSearch,
     settler: &S,
-    gate: &G,
     worker: u32,
     stop: &mut StopSeat,
     job: Job,
@@ -42,11 +40,11 @@ fn look_and_settle<S: Settler, G: Gate>(
     ensures lower { stop.new.knows.least ≤ stop.old.knows.least }
     ensures skipped { result.outcome ≡ Skipped → stop.new.knows.least < result.ticket }
 {
-    // The gate comes before the look: a test that waits in it decides what the look can show.
-    gate.before(worker, job.ticket());
+    // The report comes before the look: a test that waits in the gate decides what the look can show.
+    settler.report_taken(worker, job.ticket());
     let shown = site.word.look(stop);
     let skips = is_past(shown, job.ticket());
-    settler.settle(alloc, job, skips)
+    settler.settle(job, skips)
 }
 
 /// Marks the result's ticket where the result is a model of the clauses that makes its cube true. It is tried first: if it were none, the leaves that
@@ -63,12 +61,10 @@ fn mark_model<S: Settler>(site: &SharedSearch, settler: &S, stop: &mut StopSeat,
 }
 
 /// Settles the job in flight, and gives its result. If the board returns it, the job stays in flight.
-fn settle_next<R: Wait, S: Settler, G: Gate>(
-    alloc: Global,
+fn settle_next<R: Wait, S: Settler>(
     rt: &R,
     site: &SharedSearch,
     settler: &S,
-    gate: &G,
     seat: &mut WorkerSeat,
     stop: &mut StopSeat,
     job: Job,
@@ -82,12 +78,12 @@ fn settle_next<R: Wait, S: Settler, G: Gate>(
 {
     let worker = seat.number();
     let ticket = job.ticket();
-    let settled = look_and_settle(alloc, site, settler, gate, worker, stop, job);
+    let settled = look_and_settle(site, settler, worker, stop, job);
     mark_model(site, settler, stop, &settled);
-    gate.conflicts(settler.take_conflicts());
+    settler.report_conflicts();
     match site.board.give(rt, seat, settled) {
         Ok(()) => {
-            gate.after(worker, ticket);
+            settler.report_settled(worker, ticket);
             true
         }
         Err(_settled) => false,
@@ -95,12 +91,11 @@ fn settle_next<R: Wait, S: Settler, G: Gate>(
 }
 
 /// Settles jobs until there are no more.
-pub(crate) fn work<R: Wait, S: Settler, G: Gate>(
+pub(crate) fn work<R: Wait, S: Settler>(
     alloc: Global,
     rt: &R,
     site: &SharedSearch,
     settler: &S,
-    gate: &G,
     member: Worker,
 ) -> Worker
     requires { IsReady site.now member }
@@ -111,7 +106,7 @@ pub(crate) fn work<R: Wait, S: Settler, G: Gate>(
         let Ok(job) = site.board.take(alloc, rt, &mut seat) else {
             return Worker { seat, stop };
         };
-        if !settle_next(alloc, rt, site, settler, gate, &mut seat, &mut stop, job) {
+        if !settle_next(rt, site, settler, &mut seat, &mut stop, job) {
             return Worker { seat, stop };
         }
     }

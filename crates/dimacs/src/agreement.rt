@@ -12,6 +12,15 @@ use std::marker::Model;
 /// two ends need less.
 pub(crate) const AGREEMENT: usize = 84;
 
+/// Three literals that agree.
+#[derive(Clone, Copy)]
+pub(crate) struct AgreeingLiterals {
+    pub(crate) first: Lit,
+    pub(crate) second: Lit,
+    /// What the first two are, if they are alike.
+    pub(crate) third: Lit,
+}
+
 /// The texts of the three literals, each of which says that its variable is true.
 #[derive(Drop)]
 struct AgreementTexts {
@@ -32,13 +41,13 @@ impl Model for AgreementTexts {
 impl AgreementTexts {
     /// The texts of the three literals, if the table has them. It has none of a literal that says that its variable is false.
     #[inline(always)]
-    fn of(first: Lit, second: Lit, third: Lit, table: &VariableTable) -> Option<AgreementTexts>
-        ensures { IfSome result (λ texts. texts ≡ flat_map clause_line ((neg_ℤ first ∷ neg_ℤ second ∷ third ∷ []) ∷ (first ∷ second ∷ neg_ℤ third ∷ []) ∷ [])) }
+    fn of(literals: AgreeingLiterals, table: &VariableTable) -> Option<AgreementTexts>
+        ensures { IfSome result (λ texts. texts ≡ flat_map clause_line ((neg_ℤ literals.first ∷ neg_ℤ literals.second ∷ literals.third ∷ []) ∷ (literals.first ∷ literals.second ∷ neg_ℤ literals.third ∷ []) ∷ [])) }
     {
         Some(AgreementTexts {
-            first: table.text_of(first)?,
-            second: table.text_of(second)?,
-            third: table.text_of(third)?,
+            first: table.text_of(literals.first)?,
+            second: table.text_of(literals.second)?,
+            third: table.text_of(literals.third)?,
         })
     }
 
@@ -63,17 +72,20 @@ impl AgreementTexts {
 /// Writes the lines one after the other.
 #[inline(never)]
 fn put_one_by_one(
-    first: Lit,
-    second: Lit,
-    third: Lit,
+    literals: AgreeingLiterals,
     table: &VariableTable,
     buffer: &mut [u8],
     at: usize,
 ) -> usize
     requires { at + AGREEMENT ≤ length buffer.old }
     ensures within { result ≤ length buffer.new }
-    ensures written { take result buffer.new ≡ take at buffer.old ++ flat_map clause_line ((neg_ℤ first ∷ neg_ℤ second ∷ third ∷ []) ∷ (first ∷ second ∷ neg_ℤ third ∷ []) ∷ []) }
+    ensures written { take result buffer.new ≡ take at buffer.old ++ flat_map clause_line ((neg_ℤ literals.first ∷ neg_ℤ literals.second ∷ literals.third ∷ []) ∷ (literals.first ∷ literals.second ∷ neg_ℤ literals.third ∷ []) ∷ []) }
 {
+    let AgreeingLiterals {
+        first,
+        second,
+        third,
+    } = literals;
     let opposite = [first.negated(), second.negated(), third];
     let end = put_short_clause(&opposite, table, buffer, at);
     let same = [first, second, third.negated()];
@@ -83,19 +95,17 @@ fn put_one_by_one(
 /// Writes the lines of both clauses: at once, if the table has the variables' texts.
 #[inline(always)]
 pub(crate) fn put_both_lines(
-    first: Lit,
-    second: Lit,
-    third: Lit,
+    literals: AgreeingLiterals,
     table: &VariableTable,
     buffer: &mut [u8],
     at: usize,
 ) -> usize
     requires { at + AGREEMENT ≤ length buffer.old }
     ensures within { result ≤ length buffer.new }
-    ensures written { take result buffer.new ≡ take at buffer.old ++ flat_map clause_line ((neg_ℤ first ∷ neg_ℤ second ∷ third ∷ []) ∷ (first ∷ second ∷ neg_ℤ third ∷ []) ∷ []) }
+    ensures written { take result buffer.new ≡ take at buffer.old ++ flat_map clause_line ((neg_ℤ literals.first ∷ neg_ℤ literals.second ∷ literals.third ∷ []) ∷ (literals.first ∷ literals.second ∷ neg_ℤ literals.third ∷ []) ∷ []) }
 {
-    match AgreementTexts::of(first, second, third, table) {
+    match AgreementTexts::of(literals, table) {
         Some(texts) => texts.put(buffer, at),
-        None => put_one_by_one(first, second, third, table, buffer, at),
+        None => put_one_by_one(literals, table, buffer, at),
     }
 }

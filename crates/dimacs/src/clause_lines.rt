@@ -3,7 +3,7 @@ ghost use Rattle.std.specs.Prelude.{◌≡◌, ◌+◌, ◌≤◌, [], ◌∷◌
 ghost use Rattle.std.specs.List.{flat_map};
 ghost use Rattle.dimacs.specs.CnfText.{clause_line};
 
-use crate::agreement::{AGREEMENT, put_both_lines};
+use crate::agreement::{AGREEMENT, AgreeingLiterals, put_both_lines};
 use crate::literal::Lit;
 use crate::variable_table::VariableTable;
 use std::alloc::{AllocError, Global};
@@ -78,14 +78,12 @@ impl ClauseLines {
         ensures unchanged { OnErr result (self.new ≡ self.old) }
     {
         make_room(&mut self.buffer, self.end)?;
-        let end = put_both_lines(
+        let literals = AgreeingLiterals {
             first,
             second,
             third,
-            table,
-            self.buffer.as_mut_slice(),
-            self.end,
-        );
+        };
+        let end = put_both_lines(literals, table, self.buffer.as_mut_slice(), self.end);
         self.end = end;
         Ok(())
     }

@@ -5,7 +5,7 @@ ghost use Rattle.dimacs.specs.CnfText.{header_line, clause_line, cnf_text};
 ghost use Rattle.dimacs.specs.Sink.{AppendsFront, IsSent};
 ghost use Rattle.dimacs.specs.SinkFault.{failures_told};
 
-use crate::agreement::{AGREEMENT, put_both_lines};
+use crate::agreement::{AGREEMENT, AgreeingLiterals, put_both_lines};
 use crate::clause::Clause;
 use crate::formula::Formula;
 use crate::line_buffer::{
@@ -125,9 +125,7 @@ fn put_clauses<W: Sink>(
 /// Writes the lines of the two clauses that say that three literals agree, one after the other.
 #[inline(never)]
 fn put_each_line<W: Sink>(
-    first: Lit,
-    second: Lit,
-    third: Lit,
+    literals: AgreeingLiterals,
     table: &VariableTable,
     buffer: &mut [u8],
     at: usize,
@@ -136,12 +134,17 @@ fn put_each_line<W: Sink>(
     requires within { at ≤ length buffer.old }
     requires room { LITERAL ≤ length buffer.old }
     ensures within { IfOk result (λ end. end ≤ length buffer.new) }
-    ensures sent { IfOk result (λ end. IsSent (W.written sink.old) (W.written sink.new) (take end buffer.new) (take at buffer.old ++ flat_map clause_line ((neg_ℤ first ∷ neg_ℤ second ∷ third ∷ []) ∷ (first ∷ second ∷ neg_ℤ third ∷ []) ∷ []))) }
+    ensures sent { IfOk result (λ end. IsSent (W.written sink.old) (W.written sink.new) (take end buffer.new) (take at buffer.old ++ flat_map clause_line ((neg_ℤ literals.first ∷ neg_ℤ literals.second ∷ literals.third ∷ []) ∷ (literals.first ∷ literals.second ∷ neg_ℤ literals.third ∷ []) ∷ []))) }
     ensures well { OnOk result (W.failures sink.new ≡ W.failures sink.old) }
-    ensures front { OnErr result (AppendsFront (W.written sink.old) (W.written sink.new) (take at buffer.old ++ flat_map clause_line ((neg_ℤ first ∷ neg_ℤ second ∷ third ∷ []) ∷ (first ∷ second ∷ neg_ℤ third ∷ []) ∷ []))) }
+    ensures front { OnErr result (AppendsFront (W.written sink.old) (W.written sink.new) (take at buffer.old ++ flat_map clause_line ((neg_ℤ literals.first ∷ neg_ℤ literals.second ∷ literals.third ∷ []) ∷ (literals.first ∷ literals.second ∷ neg_ℤ literals.third ∷ []) ∷ []))) }
     ensures failed { OnErr result (W.failures sink.new ≡ W.failures sink.old + 1) }
     ensures same { W.path sink.new ≡ W.path sink.old }
 {
+    let AgreeingLiterals {
+        first,
+        second,
+        third,
+    } = literals;
     let opposite = [first.negated(), second.negated(), third];
     let kept = put_line(&opposite, table, buffer, at, sink)?;
     let same = [first, second, third.negated()];
@@ -152,9 +155,7 @@ fn put_each_line<W: Sink>(
 /// that take `at`.
 #[inline(always)]
 fn put_agreement<W: Sink>(
-    first: Lit,
-    second: Lit,
-    third: Lit,
+    literals: AgreeingLiterals,
     table: &VariableTable,
     buffer: &mut [u8],
     at: usize,
@@ -163,16 +164,16 @@ fn put_agreement<W: Sink>(
     requires within { at ≤ length buffer.old }
     requires room { LITERAL ≤ length buffer.old }
     ensures within { IfOk result (λ end. end ≤ length buffer.new) }
-    ensures sent { IfOk result (λ end. IsSent (W.written sink.old) (W.written sink.new) (take end buffer.new) (take at buffer.old ++ flat_map clause_line ((neg_ℤ first ∷ neg_ℤ second ∷ third ∷ []) ∷ (first ∷ second ∷ neg_ℤ third ∷ []) ∷ []))) }
+    ensures sent { IfOk result (λ end. IsSent (W.written sink.old) (W.written sink.new) (take end buffer.new) (take at buffer.old ++ flat_map clause_line ((neg_ℤ literals.first ∷ neg_ℤ literals.second ∷ literals.third ∷ []) ∷ (literals.first ∷ literals.second ∷ neg_ℤ literals.third ∷ []) ∷ []))) }
     ensures well { OnOk result (W.failures sink.new ≡ W.failures sink.old) }
-    ensures front { OnErr result (AppendsFront (W.written sink.old) (W.written sink.new) (take at buffer.old ++ flat_map clause_line ((neg_ℤ first ∷ neg_ℤ second ∷ third ∷ []) ∷ (first ∷ second ∷ neg_ℤ third ∷ []) ∷ []))) }
+    ensures front { OnErr result (AppendsFront (W.written sink.old) (W.written sink.new) (take at buffer.old ++ flat_map clause_line ((neg_ℤ literals.first ∷ neg_ℤ literals.second ∷ literals.third ∷ []) ∷ (literals.first ∷ literals.second ∷ neg_ℤ literals.third ∷ []) ∷ []))) }
     ensures failed { OnErr result (W.failures sink.new ≡ W.failures sink.old + 1) }
     ensures same { W.path sink.new ≡ W.path sink.old }
 {
     if buffer.len() - at >= AGREEMENT {
-        return Ok(put_both_lines(first, second, third, table, buffer, at));
+        return Ok(put_both_lines(literals, table, buffer, at));
     }
-    put_each_line(first, second, third, table, buffer, at, sink)
+    put_each_line(literals, table, buffer, at, sink)
 }
 
 /// A formula's text, which goes to a sink piece by piece: its header, and then its clauses' lines.
@@ -245,10 +246,13 @@ impl CnfWriter {
         ensures failed { OnErr result (W.failures sink.new ≡ W.failures sink.old + 1) }
         ensures same { W.path sink.new ≡ W.path sink.old }
     {
-        let end = put_agreement(
+        let literals = AgreeingLiterals {
             first,
             second,
             third,
+        };
+        let end = put_agreement(
+            literals,
             &self.table,
             self.buffer.as_mut_slice(),
             self.end,

@@ -45,6 +45,15 @@ enum PossibleSources {
     Several,
 }
 
+/// A reader whose source is known. Both are numbers of boxes.
+#[derive(Clone, Copy)]
+struct KnownSource {
+    reader: usize,
+    writer: usize,
+    /// Whether the reader is a final value. The source is then the last write, and each other one stands before it.
+    is_last: bool,
+}
+
 /// The boxes of the trace's operations that are chosen, and of those that are drawn beside them. They are made twice: what is put beside is
 /// found by the boxes of those that are chosen, and rows and numbers then change.
 fn items_beside<'t>(
@@ -55,6 +64,39 @@ fn items_beside<'t>(
     let items = items_of_choice(alloc, part.trace, choice)?;
     put_all_beside(alloc, part, choice, items.as_slice())?;
     items_of_choice(alloc, part.trace, choice)
+}
+
+/// Notes on which side of the reader and its source the other write has to stand, if one side is ruled out.
+fn derive_of(
+    alloc: Global,
+    found: &mut FoundOrder,
+    known: KnownSource,
+    other: usize,
+) -> Result<(), AllocError> {
+    let KnownSource {
+        reader,
+        writer,
+        is_last,
+    } = known;
+    let rule = if is_last {
+        DerivedRule::LastWrite
+    } else if found.relation.holds(writer, other) {
+        DerivedRule::AfterSource
+    } else if found.relation.holds(other, reader) {
+        DerivedRule::BeforeReader
+    } else {
+        return Ok(());
+    };
+    let by = DerivedBy {
+        reader,
+        writer,
+        other,
+        rule,
+    };
+    match rule {
+        DerivedRule::AfterSource => found.derive(alloc, reader, other, by),
+        _ => found.derive(alloc, other, writer, by),
+    }
 }
 
 impl<'t> DrawnPart<'t> {
@@ -180,38 +222,6 @@ impl<'t> DrawnPart<'t> {
         Ok(sources)
     }
 
-    /// Notes on which side of the reader and its source the other write has to stand, if one side is ruled out. `is_last` says that the reader
-    /// is a final value: the source is then the last write, and each other one stands before it.
-    fn derive_of(
-        &self,
-        alloc: Global,
-        found: &mut FoundOrder,
-        is_last: bool,
-        reader: usize,
-        writer: usize,
-        other: usize,
-    ) -> Result<(), AllocError> {
-        let rule = if is_last {
-            DerivedRule::LastWrite
-        } else if found.relation.holds(writer, other) {
-            DerivedRule::AfterSource
-        } else if found.relation.holds(other, reader) {
-            DerivedRule::BeforeReader
-        } else {
-            return Ok(());
-        };
-        let by = DerivedBy {
-            reader,
-            writer,
-            other,
-            rule,
-        };
-        match rule {
-            DerivedRule::AfterSource => found.derive(alloc, reader, other, by),
-            _ => found.derive(alloc, other, writer, by),
-        }
-    }
-
     /// Notes what follows for the other writes of where the reader has its value from.
     fn derive_all(
         &self,
@@ -221,9 +231,14 @@ impl<'t> DrawnPart<'t> {
         reader: usize,
         writer: usize,
     ) -> Result<(), AllocError> {
+        let known = KnownSource {
+            reader,
+            writer,
+            is_last: item.is_final(),
+        };
         for other in 0..self.items.len() {
             if other != reader && other != writer && self.items[other].writes_at(item.location) {
-                self.derive_of(alloc, found, item.is_final(), reader, writer, other)?;
+                derive_of(alloc, found, known, other)?;
             }
         }
         Ok(())

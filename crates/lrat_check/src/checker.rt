@@ -11,7 +11,7 @@ ghost use Rattle.text_lines.specs.Fault.{IsRefusal, IsRefusalAt};
 use crate::counted_clauses::CountedClauses;
 use crate::derivation::{Derivation, Step};
 use crate::formula_counts::FormulaCounts;
-use crate::justification::justify;
+use crate::justification::{StepRun, justify};
 use crate::refusal::{Refusal, StepFault};
 use crate::true_literals::TrueLiterals;
 use dimacs::{ClauseList, Lit, recall_literals};
@@ -21,26 +21,24 @@ use std::alloc::Global;
 #[derive(Clone, Copy, Debug, PartialEq, Eq)]
 pub struct Accepted;
 
-/// Takes the step of this number, counted from 1, whose hints go through the list `room`. Returns whether it adds the empty clause. A
-/// deletion may name ids of no active clause: they are passed over.
+/// Takes the step, whose hints go through the list `room`. Returns whether it adds the empty clause. A deletion may name ids of no
+/// active clause: they are passed over.
 fn take_step<'a, F: ClauseList>(
-    alloc: Global,
-    formula: &F,
+    run: &StepRun<'_, F>,
     counts: &mut FormulaCounts,
     active: &mut CountedClauses<'a>,
     trues: &mut TrueLiterals,
     room: &mut Vec<i64>,
     step: &'a Step,
-    number: usize,
 ) -> Result<bool, Refusal>
-    ensures formula { AreFormulaCounts (F.formula formula.now).clauses counts.old → AreFormulaCounts (F.formula formula.now).clauses counts.new }
-    ensures step { AreFormulaCounts (F.formula formula.now).clauses counts.old → HasRightChanges (F.formula formula.now).clauses active.old → MatchResult result
-        (λ ended. IsRight (clause_at (F.formula formula.now).clauses active.old.clauses) step.now × (ended ≡ ends step.now) × ((id : ℕ) → clause_at (F.formula formula.now).clauses active.new.clauses id ≡ after (clause_at (F.formula formula.now).clauses active.old.clauses) step.now id) × HasRightChanges (F.formula formula.now).clauses active.new)
-        (λ refusal. IsRefusalAt (λ fault. IsWrong (clause_at (F.formula formula.now).clauses active.old.clauses) step.now fault) number refusal) }
+    ensures formula { AreFormulaCounts (F.formula run.now.formula.now).clauses counts.old → AreFormulaCounts (F.formula run.now.formula.now).clauses counts.new }
+    ensures step { AreFormulaCounts (F.formula run.now.formula.now).clauses counts.old → HasRightChanges (F.formula run.now.formula.now).clauses active.old → MatchResult result
+        (λ ended. IsRight (clause_at (F.formula run.now.formula.now).clauses active.old.clauses) step.now × (ended ≡ ends step.now) × ((id : ℕ) → clause_at (F.formula run.now.formula.now).clauses active.new.clauses id ≡ after (clause_at (F.formula run.now.formula.now).clauses active.old.clauses) step.now id) × HasRightChanges (F.formula run.now.formula.now).clauses active.new)
+        (λ refusal. IsRefusalAt (λ fault. IsWrong (clause_at (F.formula run.now.formula.now).clauses active.old.clauses) step.now fault) run.now.number refusal) }
 {
     match step {
         Step::Deletion { ids, .. } => {
-            active.remove_all(formula, ids.as_slice())?;
+            active.remove_all(run.formula, ids.as_slice())?;
             Ok(false)
         }
         Step::Addition {
@@ -48,21 +46,19 @@ fn take_step<'a, F: ClauseList>(
             literals,
             hints,
         } => {
-            if active.clauses.contains(formula, *id) {
-                return Err(Refusal::At(StepFault::IdInUse, number));
+            if active.clauses.contains(run.formula, *id) {
+                return Err(Refusal::At(StepFault::IdInUse, run.number));
             }
             hints.copy_to(room)?;
             justify(
-                alloc,
-                formula,
+                run,
                 counts,
                 active,
                 trues,
                 literals.as_slice(),
                 room.as_slice(),
-                number,
             )?;
-            active.insert(formula, *id, literals)?;
+            active.insert(run.formula, *id, literals)?;
             Ok(literals.as_slice().is_empty())
         }
     }
@@ -91,16 +87,12 @@ pub fn check_with<F: ClauseList>(
     let mut room = Vec::new(alloc);
     let steps = derivation.steps();
     for i in 0..steps.len() {
-        if take_step(
+        let run = StepRun {
             alloc,
             formula,
-            counts,
-            &mut active,
-            &mut trues,
-            &mut room,
-            &steps[i],
-            i + 1,
-        )? {
+            number: i + 1,
+        };
+        if take_step(&run, counts, &mut active, &mut trues, &mut room, &steps[i])? {
             return Ok(Accepted);
         }
     }

@@ -20,29 +20,37 @@ use dimacs::{ClauseList, Lit};
 use std::alloc::{AllocError, Global};
 use std::collections::BTreeSet;
 
-/// Checks that the resolvent with the candidate of this id follows by these hints, if the first `count` true literals were true
-/// after the first hints. The later ones are taken back, so a candidate costs no more than what it makes true itself. The hints may go on
-/// with later groups: `propagate` ends before the next negative one. `number` is the number of the step, which a refusal names.
+/// A group among the hints of a step.
+#[derive(Clone, Copy)]
+struct HintGroup<'h> {
+    /// The id of its candidate.
+    id: u64,
+    /// The hints after the id. They may go on with later groups: `propagate` ends before the next negative one.
+    hints: &'h [i64],
+    /// The number of the step, which a refusal names.
+    number: usize,
+}
+
+/// Checks that the resolvent with the candidate of the group follows by its hints, if the first `count` true literals were true
+/// after the first hints. The later ones are taken back, so a candidate costs no more than what it makes true itself.
 fn check_candidate<F: ClauseList>(
     formula: &F,
     active: &ActiveClauses,
     trues: &mut TrueLiterals,
     pivot: Lit,
     count: usize,
-    id: u64,
-    hints: &[i64],
-    number: usize,
+    group: HintGroup<'_>,
 ) -> Result<(), Refusal>
     ensures kept { OnOk result (Extends trues.new (take count trues.old)) }
     ensures settled { MatchResult result
-        (λ _. IsSettled (clause_at (F.formula formula.now).clauses active.now) pivot (take count trues.old) (record { id = id; hints = first_hints hints.now }))
-        (λ refusal. IsRefusalAt (λ fault. IsUnsettled (clause_at (F.formula formula.now).clauses active.now) pivot (take count trues.old) (record { id = id; hints = first_hints hints.now }) fault) number refusal) }
+        (λ _. IsSettled (clause_at (F.formula formula.now).clauses active.now) pivot (take count trues.old) (record { id = group.entry.id; hints = first_hints group.entry.hints.now }))
+        (λ refusal. IsRefusalAt (λ fault. IsUnsettled (clause_at (F.formula formula.now).clauses active.now) pivot (take count trues.old) (record { id = group.entry.id; hints = first_hints group.entry.hints.now }) fault) group.entry.number refusal) }
 {
-    let Some(clause) = active.get(formula, id) else {
-        return Err(Refusal::At(StepFault::UnknownHint, number));
+    let Some(clause) = active.get(formula, group.id) else {
+        return Err(Refusal::At(StepFault::UnknownHint, group.number));
     };
     if !holds(clause.as_slice(), pivot.negated()) {
-        return Err(Refusal::At(StepFault::NotOpposed, number));
+        return Err(Refusal::At(StepFault::NotOpposed, group.number));
     }
     keep_first(trues, count);
     // The negation of the resolvent makes that literal false, which is a conflict already.
@@ -50,10 +58,10 @@ fn check_candidate<F: ClauseList>(
         return Ok(());
     }
     assume_others(trues, pivot, clause.as_slice())?;
-    if propagate(formula, active, trues, hints, number)? {
+    if propagate(formula, active, trues, group.hints, group.number)? {
         Ok(())
     } else {
-        Err(Refusal::At(StepFault::NoConflict, number))
+        Err(Refusal::At(StepFault::NoConflict, group.number))
     }
 }
 
@@ -73,7 +81,12 @@ pub fn check_candidates<F: ClauseList>(
     let count = trues.len();
     let mut rest = hints;
     while let Some((id, after)) = cut_group(rest) {
-        check_candidate(formula, active, trues, pivot, count, id, after, number)?;
+        let group = HintGroup {
+            id,
+            hints: after,
+            number,
+        };
+        check_candidate(formula, active, trues, pivot, count, group)?;
         rest = after;
     }
     Ok(())

@@ -1,8 +1,8 @@
 //! Boxes and titles of columns.
 
+use crate::drawing::Content;
 use crate::operation_text::BoxText;
 use crate::placement::{Placement, text_width};
-use crate::shown_names::ShownNames;
 use crate::svg_text::SvgText;
 use drawn_order::{FoundOrder, PictureItem};
 use std::alloc::{AllocError, Global};
@@ -48,43 +48,39 @@ fn draw_text(svg: &mut SvgText, text: &BoxText, center: u64, baseline: u64) {
     svg.add(&[b"</text>\n"]);
 }
 
-/// Draws the box of this number.
+/// Draws the box of this item, with the text in its middle.
 fn draw_box(
-    alloc: Global,
     svg: &mut SvgText,
     placement: &Placement<'_>,
     class: &[u8],
     item: &PictureItem<'_>,
-    names: ShownNames<'_>,
-    has_position: bool,
-) -> Result<(), AllocError> {
+    text: &BoxText,
+) {
     let edges = placement.edges_of(item);
     svg.add(&[b"<rect class=\"", class, b"\" rx=\"5\""]);
     svg.at(edges.left, edges.top);
     svg.attribute(b"width", edges.width());
     svg.attribute(b"height", edges.height());
     svg.add(&[b"/>\n"]);
-    let text = BoxText::of(alloc, item, names, has_position)?;
     // Letters of 12 pixels stand in the middle if their base line is 4 below it.
     let baseline = edges.middle().saturating_add(4);
-    draw_text(svg, &text, edges.center(), baseline);
-    Ok(())
+    draw_text(svg, text, edges.center(), baseline);
 }
 
-/// Draws all boxes.
+/// Draws all boxes. In a schedule each operation has its position.
 pub(crate) fn draw_boxes(
     alloc: Global,
     svg: &mut SvgText,
     placement: &Placement<'_>,
-    items: &[PictureItem<'_>],
-    found: &FoundOrder,
-    names: ShownNames<'_>,
-    has_position: bool,
+    content: &Content<'_, '_>,
 ) -> Result<(), AllocError> {
+    let has_position = content.subject.is_in_order();
+    let items = content.items;
     for number in 0..items.len() {
         let item = &items[number];
-        let class = class_of(found, item, number);
-        draw_box(alloc, svg, placement, class, item, names, has_position)?;
+        let class = class_of(content.found, item, number);
+        let text = BoxText::of(alloc, item, content.names, has_position)?;
+        draw_box(svg, placement, class, item, &text);
     }
     Ok(())
 }

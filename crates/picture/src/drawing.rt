@@ -148,18 +148,9 @@ impl Content<'_, '_> {
         svg: &mut SvgText,
         placement: &Placement<'_>,
     ) -> Result<(), AllocError> {
-        let has_position = self.subject.is_in_order();
         draw_titles(svg, placement);
         self.draw_arrows(alloc, svg, placement)?;
-        draw_boxes(
-            alloc,
-            svg,
-            placement,
-            self.items,
-            self.found,
-            self.names,
-            has_position,
-        )
+        draw_boxes(alloc, svg, placement, self)
     }
 
     /// Draws the picture.

@@ -14,6 +14,17 @@ use text_lines::plain_fault::PlainFault;
 use trace_decision::decide;
 use trace_semantics::trace::Trace;
 
+/// How a trace is decided once more.
+#[derive(Drop)]
+pub struct PieceSearch<'a, S> {
+    /// How a trace is searched of which at most 160 operations are kept.
+    pub short: &'a Options,
+    /// How another one is searched after its survey.
+    pub long: &'a Options,
+    /// What surveys that one.
+    pub surveyor: &'a S,
+}
+
 /// Gives what a search decides of a trace, or nothing if it has no results.
 fn decide_by_search<R: Threads + Wait + Sync>(
     alloc: Global,
@@ -59,16 +70,14 @@ pub(crate) fn decide_trace<R: Threads + Wait + Sync, S: Surveyor>(
     alloc: Global,
     rt: &R,
     trace: &Trace,
-    short: &Options,
-    long: &Options,
-    surveyor: &S,
+    search: &PieceSearch<'_, S>,
 ) -> Result<Option<Surveyed>, AllocError>
     ensures { IfOk result (λ found. IfSome found (IsShown trace.now)) }
 {
     // A refusal with a place says that more are kept than a search takes, and nothing else.
     match reduce(alloc, trace) {
-        Ok(reduced) => decide_by_search(alloc, rt, &reduced, short),
+        Ok(reduced) => decide_by_search(alloc, rt, &reduced, search.short),
         Err(PlacedFault::OutOfMemory) => Err(AllocError),
-        Err(PlacedFault::At(_, _)) => decide_long(alloc, rt, trace, long, surveyor),
+        Err(PlacedFault::At(_, _)) => decide_long(alloc, rt, trace, search.long, search.surveyor),
     }
 }

@@ -3,7 +3,7 @@ ghost use Rattle.std.specs.Prelude.{◌≡◌, [], IfOk, IfSome};
 ghost use Rattle.piece_details.specs.Details.{AreDetailsOf, IsShown, lines_shown};
 ghost use Rattle.survey_verdict.specs.Surveyed.{core_names, survey_certificate, survey_report};
 
-use crate::deciding::decide_trace;
+use crate::deciding::{PieceSearch, decide_trace};
 use crate::explained::{notes_of, picture_of};
 use crate::shown_lines::{ShownLines, lines_shown};
 use cube_jobs::Options;
@@ -114,9 +114,7 @@ pub fn details_of<R: Threads + Wait + Sync, S: Surveyor>(
     alloc: Global,
     rt: &R,
     text: &[u8],
-    short: &Options,
-    long: &Options,
-    surveyor: &S,
+    search: &PieceSearch<'_, S>,
     draws: bool,
 ) -> Result<Option<PieceDetails>, AllocError>
     ensures { IfOk result (λ found. IfSome found (AreDetailsOf text.now)) }
@@ -126,10 +124,10 @@ pub fn details_of<R: Threads + Wait + Sync, S: Surveyor>(
         Err(PlacedFault::OutOfMemory) => return Err(AllocError),
         Err(PlacedFault::At(_, _)) => return Ok(None),
     };
-    let decided = decide_trace(alloc, rt, &trace, short, long, surveyor)?;
+    let decided = decide_trace(alloc, rt, &trace, search)?;
     match decided {
         Some(surveyed) => {
-            let details = details_of_decided(alloc, text, &trace, &surveyed, short, draws)?;
+            let details = details_of_decided(alloc, text, &trace, &surveyed, search.short, draws)?;
             Ok(Some(details))
         }
         None => Ok(None),

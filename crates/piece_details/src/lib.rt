@@ -10,6 +10,7 @@ mod shown_lines;
 #[cfg(test)]
 mod tests;
 
+pub use deciding::PieceSearch;
 pub use details::{PieceDetails, details_of};
 pub use members::{push_kept, push_members};
 pub use shown_lines::ShownLines;

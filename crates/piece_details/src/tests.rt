@@ -1,6 +1,6 @@
 //! Tests of what is said of short traces.
 
-use crate::{PieceDetails, details_of, push_members};
+use crate::{PieceDetails, PieceSearch, details_of, push_members};
 use cube_jobs::Options;
 use std::alloc::Global;
 use std::sync::Wait;
@@ -23,7 +23,12 @@ fn found<R: Threads + Wait + Sync>(
 ) -> Option<PieceDetails> {
     let options = Options::new(1, 0, budget, 2).ok()?;
     let surveyor = BySaturation { budget: 1_000_000 };
-    details_of(alloc, rt, text, &options, &options, &surveyor, true).ok()?
+    let search = PieceSearch {
+        short: &options,
+        long: &options,
+        surveyor: &surveyor,
+    };
+    details_of(alloc, rt, text, &search, true).ok()?
 }
 
 /// The members that say them.

@@ -35,6 +35,15 @@ use trace_semantics::trace::Trace;
 use writer_table::operation_place::OperationPlace;
 use writer_table::runs::Run;
 
+/// The end of a location, and the pieces of a line that take its last writers.
+#[derive(Clone, Copy)]
+pub struct EndWithPieces<'a> {
+    pub location: &'a [u8],
+    /// None if the trace says none.
+    pub final_value: Option<u64>,
+    pub pieces: &'a SourcePieces,
+}
+
 /// Returns whether the operation writes the location, or reads another value there than the final one, if there is one. After the last writer no
 /// operation does either.
 fn hides_late(op: &Op, location: &[u8], final_value: Option<u64>) -> bool
@@ -159,32 +168,30 @@ pub fn may_be_final(final_value: Option<u64>, left: u64) -> bool
 /// run has an operation. A run has the places at which a process writes the location; of an empty one the last is 0, and places count from 1.
 fn bar_last(
     trace: &Trace,
-    location: &[u8],
-    final_value: Option<u64>,
+    end: &EndWithPieces,
     run: &Run,
-    pieces: &SourcePieces,
     orders: &mut Vec<OrderPair>,
 ) -> Result<bool, ReasonRefusal>
-    requires final_value { value_of trace.now.final_values location.now ≡ final_value }
-    requires run { IsWriterRun trace.now location.now run.now }
+    requires final_value { value_of trace.now.final_values end.now.location.now ≡ end.now.final_value }
+    requires run { IsWriterRun trace.now end.now.location.now run.now }
     ensures grows { OnOk result (Grows orders.old.items orders.new.items) }
-    ensures bars { OnOk result (IsLastOfProcessBarred trace.now orders.new.items location.now pieces.now run.now.process) }
-    ensures writes { IfOk result (λ does. MatchBool does (HasWriter trace.now location.now) ((k : ℕ) → IsUnwrittenBy trace.now location.now (at_number run.now.process k))) }
-    ensures only { OnOk result (AddsOnly orders.old.items orders.new.items (IsLastOrder trace.now location.now pieces.now)) }
-    ensures refused { IfErr result (IsRefusedBy (λ cause. (w : Place) × IsPossibleLast trace.now location.now w × IsLastWriterRefused pieces.now w cause)) }
+    ensures bars { OnOk result (IsLastOfProcessBarred trace.now orders.new.items end.now.location.now end.now.pieces.now run.now.process) }
+    ensures writes { IfOk result (λ does. MatchBool does (HasWriter trace.now end.now.location.now) ((k : ℕ) → IsUnwrittenBy trace.now end.now.location.now (at_number run.now.process k))) }
+    ensures only { OnOk result (AddsOnly orders.old.items orders.new.items (IsLastOrder trace.now end.now.location.now end.now.pieces.now)) }
+    ensures refused { IfErr result (IsRefusedBy (λ cause. (w : Place) × IsPossibleLast trace.now end.now.location.now w × IsLastWriterRefused end.now.pieces.now w cause)) }
 {
     trace.recall_invariant();
     let bound = OperationPlace {
         process: run.process,
         place: last_of(&run.places),
     };
-    let Some(left) = left_there(trace, bound, location) else {
+    let Some(left) = left_there(trace, bound, end.location) else {
         return Ok(false);
     };
-    if !may_be_final(final_value, left) {
+    if !may_be_final(end.final_value, left) {
         return Ok(true);
     }
-    let Some(x) = late_witness(pieces, bound) else {
+    let Some(x) = late_witness(end.pieces, bound) else {
         return Err(ReasonRefusal::For(ReasonCause::LastLeft));
     };
     if are_same(x, bound) {
@@ -197,22 +204,20 @@ fn bar_last(
 /// Bars what may be the last writer in these runs, and returns whether they have an operation.
 fn bar_lasts(
     trace: &Trace,
-    location: &[u8],
-    final_value: Option<u64>,
+    end: &EndWithPieces,
     runs: &[Run],
-    pieces: &SourcePieces,
     orders: &mut Vec<OrderPair>,
 ) -> Result<bool, ReasonRefusal>
-    requires final_value { value_of trace.now.final_values location.now ≡ final_value }
-    requires runs { AreWriterRuns trace.now location.now runs.now }
-    ensures bars { OnOk result (AreLastsBarred trace.now orders.new.items location.now pieces.now runs.now) }
-    ensures writes { IfOk result (λ does. MatchBool does (HasWriter trace.now location.now) (HasWriter trace.now location.now → ⊥)) }
-    ensures only { OnOk result (AddsOnly orders.old.items orders.new.items (IsLastOrder trace.now location.now pieces.now)) }
-    ensures refused { IfErr result (IsRefusedBy (λ cause. (w : Place) × IsPossibleLast trace.now location.now w × IsLastWriterRefused pieces.now w cause)) }
+    requires final_value { value_of trace.now.final_values end.now.location.now ≡ end.now.final_value }
+    requires runs { AreWriterRuns trace.now end.now.location.now runs.now }
+    ensures bars { OnOk result (AreLastsBarred trace.now orders.new.items end.now.location.now end.now.pieces.now runs.now) }
+    ensures writes { IfOk result (λ does. MatchBool does (HasWriter trace.now end.now.location.now) (HasWriter trace.now end.now.location.now → ⊥)) }
+    ensures only { OnOk result (AddsOnly orders.old.items orders.new.items (IsLastOrder trace.now end.now.location.now end.now.pieces.now)) }
+    ensures refused { IfErr result (IsRefusedBy (λ cause. (w : Place) × IsPossibleLast trace.now end.now.location.now w × IsLastWriterRefused end.now.pieces.now w cause)) }
 {
     let mut is_written = false;
     for run in runs {
-        let writes = bar_last(trace, location, final_value, run, pieces, orders)?;
+        let writes = bar_last(trace, end, run, orders)?;
         is_written |= writes;
     }
     Ok(is_written)
@@ -252,7 +257,12 @@ pub fn last_clause(
     want_late_pieces(trace, pieces, location, final_value)?;
     // A table by location asks for no value, so 0 stands for any.
     let runs = writers.by_location.runs(location, 0);
-    let is_written = bar_lasts(trace, location, final_value, runs, pieces, orders)?;
+    let end = EndWithPieces {
+        location,
+        final_value,
+        pieces,
+    };
+    let is_written = bar_lasts(trace, &end, runs, orders)?;
     if is_written {
         return Ok(());
     }

@@ -12,6 +12,7 @@ pub mod orders;
 pub mod own;
 pub mod pair;
 pub mod pieces;
+pub mod reader;
 pub mod source;
 pub mod stretches;
 pub mod writer_tables;

@@ -4,9 +4,8 @@
 //! behind which no operation reads the value of the source. The *pieces* of a line say how the sources of each process are barred, stretch by stretch, and the *main piece*
 //! how all others are.
 
-ghost use Rattle.std.specs.Prelude.{◌≡◌, ◌≤◌, true, ℕ, Some, None, List, IfSome, OnOk, IfErr};
+ghost use Rattle.std.specs.Prelude.{◌≡◌, ◌≤◌, true, ℕ, Some, List, OnOk, IfErr};
 ghost use Rattle.std.specs.List.{All, Contains};
-ghost use Rattle.trace_semantics.specs.Operation.{origin_of, value_read};
 ghost use Rattle.trace_semantics.specs.declared.operation.Origin.{Origin as Said};
 ghost use Rattle.trace_semantics.specs.Trace.{TraceValue};
 ghost use Rattle.writer_table.specs.declared.operation_place.OperationPlace.{OperationPlace as Place};
@@ -33,25 +32,14 @@ use crate::lookups::{is_named, operation_of, want_front, want_witness};
 use crate::orders::push_order;
 use crate::own::{last_to, own_source};
 use crate::pieces::{ProcessPieces, SourcePieces};
+use crate::reader::{ReadValue, ReaderWithPieces, value_read_by};
 use crate::stretches::{Stretches, no_stretches, stretches_of, stretches_of_one};
 use crate::writer_tables::WriterTables;
 use order_clauses::order_pair::OrderPair;
-use trace_semantics::operation::{Op, OpName, Origin};
+use trace_semantics::operation::{OpName, Origin};
 use trace_semantics::trace::Trace;
 use writer_table::operation_place::OperationPlace;
 use writer_table::runs::Run;
-
-/// The origin of the value that the operation reads, as the trace says it.
-pub fn origin(op: &Op) -> Option<&Origin>
-    ensures said { IfSome result (λ said. said.now ≡ origin_of op.now) }
-    ensures none { result ≡ None → value_read op.now ≡ None }
-{
-    match op {
-        Op::Read { origin, .. } => Some(origin),
-        Op::Write { .. } => None,
-        Op::Update { origin, .. } => Some(origin),
-    }
-}
 
 /// Refuses what is no witness among those of the processes.
 fn want_fronts(
@@ -147,29 +135,28 @@ pub fn stretches_allowed(
 /// Bars the source in the reader's own process, of which this is the place, or 0.
 fn bar_own(
     trace: &Trace,
-    reader: OperationPlace,
+    reader: &ReaderWithPieces<'_, '_>,
     own: u32,
-    pieces: &SourcePieces,
     orders: &mut Vec<OrderPair>,
 ) -> Result<(), ReasonRefusal>
     ensures grows { OnOk result (Grows orders.old.items orders.new.items) }
-    ensures bars { OnOk result (IsPlaceBarred trace.now orders.new.items reader pieces.now (at_number reader.process own)) }
-    ensures only { OnOk result ((origin : Said) (location : List ℕ) (d : ℕ) → IsOwnExact trace.now reader origin location d own → AddsOnly orders.old.items orders.new.items (IsStretchOrder trace.now reader pieces.now origin location d)) }
-    ensures refused { IfErr result (IsRefusedBy (λ cause. (origin : Said) (location : List ℕ) (d : ℕ) → IsOwnExact trace.now reader origin location d own → IsReaderRefused trace.now reader pieces.now origin location d cause)) }
+    ensures bars { OnOk result (IsPlaceBarred trace.now orders.new.items reader.now.operation reader.now.pieces.now (at_number reader.now.operation.process own)) }
+    ensures only { OnOk result ((origin : Said) (location : List ℕ) (d : ℕ) → IsOwnExact trace.now reader.now.operation origin location d own → AddsOnly orders.old.items orders.new.items (IsStretchOrder trace.now reader.now.operation reader.now.pieces.now origin location d)) }
+    ensures refused { IfErr result (IsRefusedBy (λ cause. (origin : Said) (location : List ℕ) (d : ℕ) → IsOwnExact trace.now reader.now.operation origin location d own → IsReaderRefused trace.now reader.now.operation reader.now.pieces.now origin location d cause)) }
 {
     trace.recall_invariant();
     if own == 0 {
         return Ok(());
     }
-    let piece = pieces.of_process(reader.process);
+    let piece = reader.pieces.of_process(reader.operation.process);
     let s = stretches_of_one(own, piece.bound, piece.limit);
     bar_process(
         orders,
-        reader,
-        reader.process,
+        reader.operation,
+        reader.operation.process,
         s,
         piece.witness,
-        pieces.others(),
+        reader.pieces.others(),
     )?;
     Ok(())
 }
@@ -177,27 +164,25 @@ fn bar_own(
 /// Bars the sources in a run.
 fn bar_other(
     trace: &Trace,
-    reader: OperationPlace,
-    origin: &Origin,
+    reader: &ReaderWithPieces<'_, '_>,
     run: &Run,
-    pieces: &SourcePieces,
     orders: &mut Vec<OrderPair>,
 ) -> Result<(), ReasonRefusal>
     ensures grows { OnOk result (Grows orders.old.items orders.new.items) }
-    ensures bars { OnOk result ((own : ℕ) → IsRunBarred trace.now orders.new.items reader origin.now own pieces.now run.now) }
-    ensures only { OnOk result ((location : List ℕ) (d : ℕ) → IsOtherRun trace.now reader location d run.now → AddsOnly orders.old.items orders.new.items (IsStretchOrder trace.now reader pieces.now origin.now location d)) }
-    ensures refused { IfErr result (IsRefusedBy (λ cause. (location : List ℕ) (d : ℕ) → IsOtherRun trace.now reader location d run.now → IsReaderRefused trace.now reader pieces.now origin.now location d cause)) }
+    ensures bars { OnOk result ((own : ℕ) → IsRunBarred trace.now orders.new.items reader.now.operation reader.now.read.origin.now own reader.now.pieces.now run.now) }
+    ensures only { OnOk result ((location : List ℕ) (d : ℕ) → IsOtherRun trace.now reader.now.operation location d run.now → AddsOnly orders.old.items orders.new.items (IsStretchOrder trace.now reader.now.operation reader.now.pieces.now reader.now.read.origin.now location d)) }
+    ensures refused { IfErr result (IsRefusedBy (λ cause. (location : List ℕ) (d : ℕ) → IsOtherRun trace.now reader.now.operation location d run.now → IsReaderRefused trace.now reader.now.operation reader.now.pieces.now reader.now.read.origin.now location d cause)) }
 {
     trace.recall_invariant();
-    let piece = pieces.of_process(run.process);
-    let s = stretches_allowed(trace, origin, run, piece);
+    let piece = reader.pieces.of_process(run.process);
+    let s = stretches_allowed(trace, reader.read.origin, run, piece);
     bar_process(
         orders,
-        reader,
+        reader.operation,
         run.process,
         s,
         piece.witness,
-        pieces.others(),
+        reader.pieces.others(),
     )?;
     Ok(())
 }
@@ -206,22 +191,20 @@ fn bar_other(
 /// has it, since the runs are of the writers of the value.
 fn bar_run(
     trace: &Trace,
-    reader: OperationPlace,
-    origin: &Origin,
+    reader: &ReaderWithPieces<'_, '_>,
     own: u32,
     run: &Run,
-    pieces: &SourcePieces,
     orders: &mut Vec<OrderPair>,
 ) -> Result<(), ReasonRefusal>
     ensures grows { OnOk result (Grows orders.old.items orders.new.items) }
-    ensures bars { OnOk result (IsRunBarred trace.now orders.new.items reader origin.now own pieces.now run.now) }
-    ensures only { OnOk result ((location : List ℕ) (d : ℕ) → IsWholeRun trace.now location d run.now → IsOwnExact trace.now reader origin.now location d own → AddsOnly orders.old.items orders.new.items (IsStretchOrder trace.now reader pieces.now origin.now location d)) }
-    ensures refused { IfErr result (IsRefusedBy (λ cause. (location : List ℕ) (d : ℕ) → IsWholeRun trace.now location d run.now → IsOwnExact trace.now reader origin.now location d own → IsReaderRefused trace.now reader pieces.now origin.now location d cause)) }
+    ensures bars { OnOk result (IsRunBarred trace.now orders.new.items reader.now.operation reader.now.read.origin.now own reader.now.pieces.now run.now) }
+    ensures only { OnOk result ((location : List ℕ) (d : ℕ) → IsWholeRun trace.now location d run.now → IsOwnExact trace.now reader.now.operation reader.now.read.origin.now location d own → AddsOnly orders.old.items orders.new.items (IsStretchOrder trace.now reader.now.operation reader.now.pieces.now reader.now.read.origin.now location d)) }
+    ensures refused { IfErr result (IsRefusedBy (λ cause. (location : List ℕ) (d : ℕ) → IsWholeRun trace.now location d run.now → IsOwnExact trace.now reader.now.operation reader.now.read.origin.now location d own → IsReaderRefused trace.now reader.now.operation reader.now.pieces.now reader.now.read.origin.now location d cause)) }
 {
-    if run.process == reader.process {
-        bar_own(trace, reader, own, pieces, orders)?;
+    if run.process == reader.operation.process {
+        bar_own(trace, reader, own, orders)?;
     } else {
-        bar_other(trace, reader, origin, run, pieces, orders)?;
+        bar_other(trace, reader, run, orders)?;
     }
     Ok(())
 }
@@ -229,20 +212,18 @@ fn bar_run(
 /// Bars the sources in these runs.
 fn bar_runs(
     trace: &Trace,
-    reader: OperationPlace,
-    origin: &Origin,
+    reader: &ReaderWithPieces<'_, '_>,
     own: u32,
     runs: &[Run],
-    pieces: &SourcePieces,
     orders: &mut Vec<OrderPair>,
 ) -> Result<(), ReasonRefusal>
     ensures grows { OnOk result (Grows orders.old.items orders.new.items) }
-    ensures bars { OnOk result (AreRunsBarred trace.now orders.new.items reader origin.now own pieces.now runs.now) }
-    ensures only { OnOk result ((location : List ℕ) (d : ℕ) → AreWholeRuns trace.now location d runs.now → IsOwnExact trace.now reader origin.now location d own → AddsOnly orders.old.items orders.new.items (IsStretchOrder trace.now reader pieces.now origin.now location d)) }
-    ensures refused { IfErr result (IsRefusedBy (λ cause. (location : List ℕ) (d : ℕ) → AreWholeRuns trace.now location d runs.now → IsOwnExact trace.now reader origin.now location d own → IsReaderRefused trace.now reader pieces.now origin.now location d cause)) }
+    ensures bars { OnOk result (AreRunsBarred trace.now orders.new.items reader.now.operation reader.now.read.origin.now own reader.now.pieces.now runs.now) }
+    ensures only { OnOk result ((location : List ℕ) (d : ℕ) → AreWholeRuns trace.now location d runs.now → IsOwnExact trace.now reader.now.operation reader.now.read.origin.now location d own → AddsOnly orders.old.items orders.new.items (IsStretchOrder trace.now reader.now.operation reader.now.pieces.now reader.now.read.origin.now location d)) }
+    ensures refused { IfErr result (IsRefusedBy (λ cause. (location : List ℕ) (d : ℕ) → AreWholeRuns trace.now location d runs.now → IsOwnExact trace.now reader.now.operation reader.now.read.origin.now location d own → IsReaderRefused trace.now reader.now.operation reader.now.pieces.now reader.now.read.origin.now location d cause)) }
 {
     for run in runs {
-        bar_run(trace, reader, origin, own, run, pieces, orders)?;
+        bar_run(trace, reader, own, run, orders)?;
     }
     Ok(())
 }
@@ -259,15 +240,15 @@ pub fn is_from_start(origin: &Origin) -> bool
     }
 }
 
-/// Returns whether a reader may read the value at the location as the initial one, by what is said of where it comes from.
-fn may_be_initial(trace: &Trace, location: &[u8], value: u64, origin: &Origin) -> bool
-    ensures found { IsInitialPossible trace.now origin.now location.now value → result ≡ true }
-    ensures only { result ≡ true → IsInitialPossible trace.now origin.now location.now value }
+/// Returns whether a reader may read the value as the initial one, by what is said of where it comes from.
+fn may_be_initial(trace: &Trace, read: &ReadValue) -> bool
+    ensures found { IsInitialPossible trace.now read.now.origin.now read.now.location.now read.now.value → result ≡ true }
+    ensures only { result ≡ true → IsInitialPossible trace.now read.now.origin.now read.now.location.now read.now.value }
 {
-    if !is_from_start(origin) {
+    if !is_from_start(read.origin) {
         return false;
     }
-    is_held_at(trace.initial(), location, value)
+    is_held_at(trace.initial(), read.location, read.value)
 }
 
 /// The witness of the pieces against the initial value: that of its own piece, and else that of a main piece by a witness, which takes it with all
@@ -290,50 +271,49 @@ fn start_witness(pieces: &SourcePieces) -> Option<OperationPlace>
 /// Bars the initial value by a witness after the reader, if the reader may read it.
 fn bar_start(
     trace: &Trace,
-    reader: OperationPlace,
-    location: &[u8],
-    value: u64,
-    origin: &Origin,
-    pieces: &SourcePieces,
+    reader: &ReaderWithPieces<'_, '_>,
     orders: &mut Vec<OrderPair>,
 ) -> Result<(), ReasonRefusal>
     ensures grows { OnOk result (Grows orders.old.items orders.new.items) }
-    ensures bars { OnOk result (IsStartBarred trace.now orders.new.items reader origin.now pieces.now location.now value) }
-    ensures only { OnOk result (AddsOnly orders.old.items orders.new.items (IsInitialOrder trace.now reader pieces.now origin.now location.now value)) }
-    ensures refused { IfErr result (IsRefusedBy (IsReaderRefused trace.now reader pieces.now origin.now location.now value)) }
+    ensures bars { OnOk result (IsStartBarred trace.now orders.new.items reader.now.operation reader.now.read.origin.now reader.now.pieces.now reader.now.read.location.now reader.now.read.value) }
+    ensures only { OnOk result (AddsOnly orders.old.items orders.new.items (IsInitialOrder trace.now reader.now.operation reader.now.pieces.now reader.now.read.origin.now reader.now.read.location.now reader.now.read.value)) }
+    ensures refused { IfErr result (IsRefusedBy (IsReaderRefused trace.now reader.now.operation reader.now.pieces.now reader.now.read.origin.now reader.now.read.location.now reader.now.read.value)) }
 {
-    if !may_be_initial(trace, location, value, origin) {
+    if !may_be_initial(trace, &reader.read) {
         return Ok(());
     }
-    let Some(x) = start_witness(pieces) else {
+    let Some(x) = start_witness(reader.pieces) else {
         return Err(ReasonRefusal::For(ReasonCause::InitialLeft));
     };
-    push_order(orders, reader, x)?;
+    push_order(orders, reader.operation, x)?;
     Ok(())
 }
 
-/// Bars all sources of a reader that reads the value at the location. The source in its own process is found in the table by location, since a
-/// later writer of another value hides those before it.
+/// Bars all sources of the reader. The source in its own process is found in the table by location, since a later writer of another value hides those
+/// before it.
 fn bar_sources(
     trace: &Trace,
     writers: &WriterTables,
-    reader: OperationPlace,
-    location: &[u8],
-    value: u64,
-    origin: &Origin,
-    pieces: &SourcePieces,
+    reader: &ReaderWithPieces<'_, '_>,
     orders: &mut Vec<OrderPair>,
 ) -> Result<(), ReasonRefusal>
     requires { HoldTables trace.now writers.now }
-    ensures bars { OnOk result (AreSourcesBarred trace.now orders.new.items reader origin.now pieces.now location.now value) }
-    ensures only { OnOk result (AddsOnly orders.old.items orders.new.items (IsReaderOrder trace.now reader pieces.now origin.now location.now value)) }
-    ensures refused { IfErr result (IsRefusedBy (IsReaderRefused trace.now reader pieces.now origin.now location.now value)) }
+    ensures bars { OnOk result (AreSourcesBarred trace.now orders.new.items reader.now.operation reader.now.read.origin.now reader.now.pieces.now reader.now.read.location.now reader.now.read.value) }
+    ensures only { OnOk result (AddsOnly orders.old.items orders.new.items (IsReaderOrder trace.now reader.now.operation reader.now.pieces.now reader.now.read.origin.now reader.now.read.location.now reader.now.read.value)) }
+    ensures refused { IfErr result (IsRefusedBy (IsReaderRefused trace.now reader.now.operation reader.now.pieces.now reader.now.read.origin.now reader.now.read.location.now reader.now.read.value)) }
 {
     trace.recall_invariant();
-    let own = own_source(trace, &writers.by_location, reader, location, value, origin);
-    let runs = writers.by_value.runs(location, value);
-    bar_runs(trace, reader, origin, own, runs, pieces, orders)?;
-    bar_start(trace, reader, location, value, origin, pieces, orders)?;
+    let own = own_source(
+        trace,
+        &writers.by_location,
+        reader.operation,
+        reader.read.location,
+        reader.read.value,
+        reader.read.origin,
+    );
+    let runs = writers.by_value.runs(reader.read.location, reader.read.value);
+    bar_runs(trace, reader, own, runs, orders)?;
+    bar_start(trace, reader, orders)?;
     Ok(())
 }
 
@@ -351,18 +331,13 @@ pub fn source_clause(
     ensures only { OnOk result (AddsOnly orders.old.items orders.new.items (IsSourceOrder trace.now reader pieces.now)) }
     ensures refused { IfErr result (IsRefusedBy (IsSourceRefused trace.now reader pieces.now)) }
 {
-    let op = operation_of(trace, reader)?;
-    let Some(value) = op.value_read() else {
-        return Err(ReasonRefusal::For(ReasonCause::NoReader));
+    let read = value_read_by(trace, reader)?;
+    want_pieces(trace, reader, read.location, read.value, pieces)?;
+    let reader_with_pieces = ReaderWithPieces {
+        operation: reader,
+        read,
+        pieces,
     };
-    // What reads a value has an origin, so this is never refused.
-    let Some(origin) = origin(op) else {
-        return Err(ReasonRefusal::For(ReasonCause::NoReader));
-    };
-    let location = op.location().as_bytes();
-    want_pieces(trace, reader, location, value, pieces)?;
-    bar_sources(
-        trace, writers, reader, location, value, origin, pieces, orders,
-    )?;
+    bar_sources(trace, writers, &reader_with_pieces, orders)?;
     Ok(())
 }

@@ -18,7 +18,7 @@ use crate::left_sources::{LeftSources, LeftStretch};
 use order_clauses::order_pair::OrderPair;
 use reason_clauses::cause::{ReasonCause, ReasonRefusal};
 use reason_clauses::held_at::value_at;
-use reason_clauses::last::{late_witness, may_be_final, want_late_pieces};
+use reason_clauses::last::{EndWithPieces, late_witness, may_be_final, want_late_pieces};
 use reason_clauses::lookups::are_same;
 use reason_clauses::orders::push_order;
 use reason_clauses::own::{last_of, left_there};
@@ -48,35 +48,33 @@ fn keep_one(left: &mut Vec<LeftStretch>, n: OperationPlace, value: u64) -> Resul
 /// there is none. An earlier one of the run is never the last writer. Returns whether the run has an operation.
 fn bar_taken_last(
     trace: &Trace,
-    location: &[u8],
-    final_value: Option<u64>,
+    end: &EndWithPieces,
     run: &Run,
-    pieces: &SourcePieces,
     orders: &mut Vec<OrderPair>,
     left: &mut Vec<LeftStretch>,
 ) -> Result<bool, ReasonRefusal>
-    requires final_value { value_of trace.now.final_values location.now ≡ final_value }
-    requires run { IsWriterRun trace.now location.now run.now }
+    requires final_value { value_of trace.now.final_values end.now.location.now ≡ end.now.final_value }
+    requires run { IsWriterRun trace.now end.now.location.now run.now }
     ensures grows { OnOk result (Grows orders.old.items orders.new.items) }
     ensures more { OnOk result (AreMore left.old.items left.new.items) }
-    ensures bars { OnOk result (IsLastRunLeft trace.now orders.new.items left.new.items location.now pieces.now run.now) }
-    ensures writes { IfOk result (λ does. MatchBool does (HasWriter trace.now location.now) ((k : ℕ) → IsUnwrittenBy trace.now location.now (at_number run.now.process k))) }
-    ensures only { OnOk result (AddsOnly orders.old.items orders.new.items (IsLastOrder trace.now location.now pieces.now)) }
-    ensures left { OnOk result (KeepsOnly left.old.items left.new.items (IsOtherEnd trace.now location.now pieces.now)) }
-    ensures refused { IfErr result (IsRefusedBy (IsEndTakenRefused trace.now location.now pieces.now)) }
+    ensures bars { OnOk result (IsLastRunLeft trace.now orders.new.items left.new.items end.now.location.now end.now.pieces.now run.now) }
+    ensures writes { IfOk result (λ does. MatchBool does (HasWriter trace.now end.now.location.now) ((k : ℕ) → IsUnwrittenBy trace.now end.now.location.now (at_number run.now.process k))) }
+    ensures only { OnOk result (AddsOnly orders.old.items orders.new.items (IsLastOrder trace.now end.now.location.now end.now.pieces.now)) }
+    ensures left { OnOk result (KeepsOnly left.old.items left.new.items (IsOtherEnd trace.now end.now.location.now end.now.pieces.now)) }
+    ensures refused { IfErr result (IsRefusedBy (IsEndTakenRefused trace.now end.now.location.now end.now.pieces.now)) }
 {
     trace.recall_invariant();
     let bound = OperationPlace {
         process: run.process,
         place: last_of(&run.places),
     };
-    let Some(value) = left_there(trace, bound, location) else {
+    let Some(value) = left_there(trace, bound, end.location) else {
         return Ok(false);
     };
-    if !may_be_final(final_value, value) {
+    if !may_be_final(end.final_value, value) {
         return Ok(true);
     }
-    let Some(x) = late_witness(pieces, bound) else {
+    let Some(x) = late_witness(end.pieces, bound) else {
         keep_one(left, bound, value)?;
         return Ok(true);
     };
@@ -90,25 +88,23 @@ fn bar_taken_last(
 /// Bars what may be the last writer in these runs, if a piece takes it, and else keeps it. Returns whether they have an operation.
 fn bar_taken_lasts(
     trace: &Trace,
-    location: &[u8],
-    final_value: Option<u64>,
+    end: &EndWithPieces,
     runs: &[Run],
-    pieces: &SourcePieces,
     orders: &mut Vec<OrderPair>,
     left: &mut Vec<LeftStretch>,
 ) -> Result<bool, ReasonRefusal>
-    requires final_value { value_of trace.now.final_values location.now ≡ final_value }
-    requires runs { AreWriterRuns trace.now location.now runs.now }
+    requires final_value { value_of trace.now.final_values end.now.location.now ≡ end.now.final_value }
+    requires runs { AreWriterRuns trace.now end.now.location.now runs.now }
     ensures grows { OnOk result (Grows orders.old.items orders.new.items) }
-    ensures bars { OnOk result (AreLastRunsLeft trace.now orders.new.items left.new.items location.now pieces.now runs.now) }
-    ensures writes { IfOk result (λ does. MatchBool does (HasWriter trace.now location.now) (HasWriter trace.now location.now → ⊥)) }
-    ensures only { OnOk result (AddsOnly orders.old.items orders.new.items (IsLastOrder trace.now location.now pieces.now)) }
-    ensures left { OnOk result (KeepsOnly left.old.items left.new.items (IsOtherEnd trace.now location.now pieces.now)) }
-    ensures refused { IfErr result (IsRefusedBy (IsEndTakenRefused trace.now location.now pieces.now)) }
+    ensures bars { OnOk result (AreLastRunsLeft trace.now orders.new.items left.new.items end.now.location.now end.now.pieces.now runs.now) }
+    ensures writes { IfOk result (λ does. MatchBool does (HasWriter trace.now end.now.location.now) (HasWriter trace.now end.now.location.now → ⊥)) }
+    ensures only { OnOk result (AddsOnly orders.old.items orders.new.items (IsLastOrder trace.now end.now.location.now end.now.pieces.now)) }
+    ensures left { OnOk result (KeepsOnly left.old.items left.new.items (IsOtherEnd trace.now end.now.location.now end.now.pieces.now)) }
+    ensures refused { IfErr result (IsRefusedBy (IsEndTakenRefused trace.now end.now.location.now end.now.pieces.now)) }
 {
     let mut is_written = false;
     for run in runs {
-        let writes = bar_taken_last(trace, location, final_value, run, pieces, orders, left)?;
+        let writes = bar_taken_last(trace, end, run, orders, left)?;
         is_written |= writes;
     }
     Ok(is_written)
@@ -135,16 +131,13 @@ pub fn left_ends<'a>(
     want_late_pieces(trace, pieces, location, final_value)?;
     // A table by location asks for no value, so 0 stands for any.
     let runs = writers.by_location.runs(location, 0);
-    let mut stretches = Vec::new(alloc);
-    let is_written = bar_taken_lasts(
-        trace,
+    let end = EndWithPieces {
         location,
         final_value,
-        runs,
         pieces,
-        orders,
-        &mut stretches,
-    )?;
+    };
+    let mut stretches = Vec::new(alloc);
+    let is_written = bar_taken_lasts(trace, &end, runs, orders, &mut stretches)?;
     if !is_written {
         return Err(ReasonRefusal::For(ReasonCause::NoWriter));
     }

@@ -28,17 +28,16 @@ ghost use Rattle.reason_counting.specs.OtherSources.{AreOthers, IsInitialOther, 
 
 use order_clauses::order_pair::OrderPair;
 use reason_clauses::barring::{MainPiece, bar_process};
-use reason_clauses::cause::{ReasonCause, ReasonRefusal};
+use reason_clauses::cause::ReasonRefusal;
 use reason_clauses::held_at::is_held_at;
-use reason_clauses::lookups::operation_of;
 use reason_clauses::orders::push_order;
 use reason_clauses::own::own_source;
 use reason_clauses::pieces::SourcePieces;
-use reason_clauses::source::{is_from_start, origin, stretches_allowed, want_pieces};
+use reason_clauses::reader::{ReaderWithPieces, value_read_by};
+use reason_clauses::source::{is_from_start, stretches_allowed, want_pieces};
 use reason_clauses::stretches::{Stretches, stretches_of_one};
 use reason_clauses::writer_tables::WriterTables;
 use std::alloc::{AllocError, Global};
-use trace_semantics::operation::Origin;
 use trace_semantics::trace::Trace;
 use writer_table::operation_place::OperationPlace;
 use writer_table::runs::Run;
@@ -89,8 +88,7 @@ fn keep_main(
 /// bars nothing.
 fn bar_taken(
     orders: &mut Vec<OrderPair>,
-    reader: OperationPlace,
-    value: u64,
+    reader: &ReaderWithPieces<'_, '_>,
     process: u32,
     s: Stretches,
     witness: Option<OperationPlace>,
@@ -98,10 +96,10 @@ fn bar_taken(
 ) -> Result<(), ReasonRefusal>
     ensures grows { OnOk result (Grows orders.old.items orders.new.items) }
     ensures more { OnOk result (AreMore left.old.items left.new.items) }
-    ensures bars { OnOk result (BarsPlaces orders.new.items reader process (λ t location d. IsGivenFront t location d reader witness × IsGivenMain t location d reader Plain) (AreTaken (without_main s))) }
-    ensures kept { OnOk result (IsMainLeft left.new.items value process s) }
-    ensures only { OnOk result (AddsOnly orders.old.items orders.new.items (IsTakenOrder reader process s witness)) }
-    ensures left { OnOk result (KeepsOnly left.old.items left.new.items (IsMainStretch value process s)) }
+    ensures bars { OnOk result (BarsPlaces orders.new.items reader.now.operation process (λ t location d. IsGivenFront t location d reader.now.operation witness × IsGivenMain t location d reader.now.operation Plain) (AreTaken (without_main s))) }
+    ensures kept { OnOk result (IsMainLeft left.new.items reader.now.read.value process s) }
+    ensures only { OnOk result (AddsOnly orders.old.items orders.new.items (IsTakenOrder reader.now.operation process s witness)) }
+    ensures left { OnOk result (KeepsOnly left.old.items left.new.items (IsMainStretch reader.now.read.value process s)) }
     ensures refused { IfErr result (IsRefusedBy (IsTakenRefused process s witness)) }
 {
     let taken = Stretches {
@@ -110,38 +108,42 @@ fn bar_taken(
         first: 0,
         last: 0,
     };
-    bar_process(orders, reader, process, taken, witness, MainPiece::Plain)?;
-    keep_main(left, value, process, s)?;
+    bar_process(
+        orders,
+        reader.operation,
+        process,
+        taken,
+        witness,
+        MainPiece::Plain,
+    )?;
+    keep_main(left, reader.read.value, process, s)?;
     Ok(())
 }
 
 /// Bars the source in the reader's own process, of which this is the place, or 0, or keeps it.
 fn bar_taken_own(
     trace: &Trace,
-    reader: OperationPlace,
-    value: u64,
+    reader: &ReaderWithPieces<'_, '_>,
     own: u32,
-    pieces: &SourcePieces,
     orders: &mut Vec<OrderPair>,
     left: &mut Vec<LeftStretch>,
 ) -> Result<(), ReasonRefusal>
     ensures grows { OnOk result (Grows orders.old.items orders.new.items) }
     ensures more { OnOk result (AreMore left.old.items left.new.items) }
-    ensures bars { OnOk result (IsPlaceLeft trace.now orders.new.items left.new.items value reader pieces.now (at_number reader.process own)) }
-    ensures only { OnOk result ((origin : Source) (location : List ℕ) → IsOwnExact trace.now reader origin location value own → TakesOnly trace.now reader pieces.now origin location value orders.old.items orders.new.items left.old.items left.new.items) }
-    ensures refused { IfErr result (IsRefusedBy (λ cause. (origin : Source) (location : List ℕ) → IsOwnExact trace.now reader origin location value own → IsPartlyRefused trace.now reader pieces.now origin location value cause)) }
+    ensures bars { OnOk result (IsPlaceLeft trace.now orders.new.items left.new.items reader.now.read.value reader.now.operation reader.now.pieces.now (at_number reader.now.operation.process own)) }
+    ensures only { OnOk result ((origin : Source) (location : List ℕ) → IsOwnExact trace.now reader.now.operation origin location reader.now.read.value own → TakesOnly trace.now reader.now.operation reader.now.pieces.now origin location reader.now.read.value orders.old.items orders.new.items left.old.items left.new.items) }
+    ensures refused { IfErr result (IsRefusedBy (λ cause. (origin : Source) (location : List ℕ) → IsOwnExact trace.now reader.now.operation origin location reader.now.read.value own → IsPartlyRefused trace.now reader.now.operation reader.now.pieces.now origin location reader.now.read.value cause)) }
 {
     trace.recall_invariant();
     if own == 0 {
         return Ok(());
     }
-    let piece = pieces.of_process(reader.process);
+    let piece = reader.pieces.of_process(reader.operation.process);
     let s = stretches_of_one(own, piece.bound, piece.limit);
     bar_taken(
         orders,
         reader,
-        value,
-        reader.process,
+        reader.operation.process,
         s,
         piece.witness,
         left,
@@ -152,49 +154,43 @@ fn bar_taken_own(
 /// Bars the sources in a run that a piece takes, and keeps the others.
 fn bar_taken_other(
     trace: &Trace,
-    reader: OperationPlace,
-    value: u64,
-    origin: &Origin,
+    reader: &ReaderWithPieces<'_, '_>,
     run: &Run,
-    pieces: &SourcePieces,
     orders: &mut Vec<OrderPair>,
     left: &mut Vec<LeftStretch>,
 ) -> Result<(), ReasonRefusal>
     ensures grows { OnOk result (Grows orders.old.items orders.new.items) }
     ensures more { OnOk result (AreMore left.old.items left.new.items) }
-    ensures bars { OnOk result ((own : ℕ) → IsRunLeft trace.now orders.new.items left.new.items value reader origin.now own pieces.now run.now) }
-    ensures only { OnOk result ((location : List ℕ) → IsOtherRun trace.now reader location value run.now → TakesOnly trace.now reader pieces.now origin.now location value orders.old.items orders.new.items left.old.items left.new.items) }
-    ensures refused { IfErr result (IsRefusedBy (λ cause. (location : List ℕ) → IsOtherRun trace.now reader location value run.now → IsPartlyRefused trace.now reader pieces.now origin.now location value cause)) }
+    ensures bars { OnOk result ((own : ℕ) → IsRunLeft trace.now orders.new.items left.new.items reader.now.read.value reader.now.operation reader.now.read.origin.now own reader.now.pieces.now run.now) }
+    ensures only { OnOk result ((location : List ℕ) → IsOtherRun trace.now reader.now.operation location reader.now.read.value run.now → TakesOnly trace.now reader.now.operation reader.now.pieces.now reader.now.read.origin.now location reader.now.read.value orders.old.items orders.new.items left.old.items left.new.items) }
+    ensures refused { IfErr result (IsRefusedBy (λ cause. (location : List ℕ) → IsOtherRun trace.now reader.now.operation location reader.now.read.value run.now → IsPartlyRefused trace.now reader.now.operation reader.now.pieces.now reader.now.read.origin.now location reader.now.read.value cause)) }
 {
     trace.recall_invariant();
-    let piece = pieces.of_process(run.process);
-    let s = stretches_allowed(trace, origin, run, piece);
-    bar_taken(orders, reader, value, run.process, s, piece.witness, left)?;
+    let piece = reader.pieces.of_process(run.process);
+    let s = stretches_allowed(trace, reader.read.origin, run, piece);
+    bar_taken(orders, reader, run.process, s, piece.witness, left)?;
     Ok(())
 }
 
 /// The same; in the reader's own process that is the source at this place, or none if it is 0.
 fn bar_taken_run(
     trace: &Trace,
-    reader: OperationPlace,
-    value: u64,
-    origin: &Origin,
+    reader: &ReaderWithPieces<'_, '_>,
     own: u32,
     run: &Run,
-    pieces: &SourcePieces,
     orders: &mut Vec<OrderPair>,
     left: &mut Vec<LeftStretch>,
 ) -> Result<(), ReasonRefusal>
     ensures grows { OnOk result (Grows orders.old.items orders.new.items) }
     ensures more { OnOk result (AreMore left.old.items left.new.items) }
-    ensures bars { OnOk result (IsRunLeft trace.now orders.new.items left.new.items value reader origin.now own pieces.now run.now) }
-    ensures only { OnOk result ((location : List ℕ) → IsOwnExact trace.now reader origin.now location value own → IsWholeRun trace.now location value run.now → TakesOnly trace.now reader pieces.now origin.now location value orders.old.items orders.new.items left.old.items left.new.items) }
-    ensures refused { IfErr result (IsRefusedBy (λ cause. (location : List ℕ) → IsOwnExact trace.now reader origin.now location value own → IsWholeRun trace.now location value run.now → IsPartlyRefused trace.now reader pieces.now origin.now location value cause)) }
+    ensures bars { OnOk result (IsRunLeft trace.now orders.new.items left.new.items reader.now.read.value reader.now.operation reader.now.read.origin.now own reader.now.pieces.now run.now) }
+    ensures only { OnOk result ((location : List ℕ) → IsOwnExact trace.now reader.now.operation reader.now.read.origin.now location reader.now.read.value own → IsWholeRun trace.now location reader.now.read.value run.now → TakesOnly trace.now reader.now.operation reader.now.pieces.now reader.now.read.origin.now location reader.now.read.value orders.old.items orders.new.items left.old.items left.new.items) }
+    ensures refused { IfErr result (IsRefusedBy (λ cause. (location : List ℕ) → IsOwnExact trace.now reader.now.operation reader.now.read.origin.now location reader.now.read.value own → IsWholeRun trace.now location reader.now.read.value run.now → IsPartlyRefused trace.now reader.now.operation reader.now.pieces.now reader.now.read.origin.now location reader.now.read.value cause)) }
 {
-    if run.process == reader.process {
-        bar_taken_own(trace, reader, value, own, pieces, orders, left)?;
+    if run.process == reader.operation.process {
+        bar_taken_own(trace, reader, own, orders, left)?;
     } else {
-        bar_taken_other(trace, reader, value, origin, run, pieces, orders, left)?;
+        bar_taken_other(trace, reader, run, orders, left)?;
     }
     Ok(())
 }
@@ -202,22 +198,19 @@ fn bar_taken_run(
 /// Bars the sources in these runs that a piece takes, and keeps the others.
 fn bar_taken_runs(
     trace: &Trace,
-    reader: OperationPlace,
-    value: u64,
-    origin: &Origin,
+    reader: &ReaderWithPieces<'_, '_>,
     own: u32,
     runs: &[Run],
-    pieces: &SourcePieces,
     orders: &mut Vec<OrderPair>,
     left: &mut Vec<LeftStretch>,
 ) -> Result<(), ReasonRefusal>
     ensures grows { OnOk result (Grows orders.old.items orders.new.items) }
-    ensures bars { OnOk result (AreRunsLeft trace.now orders.new.items left.new.items value reader origin.now own pieces.now runs.now) }
-    ensures only { OnOk result ((location : List ℕ) → IsOwnExact trace.now reader origin.now location value own → AreWholeRuns trace.now location value runs.now → TakesOnly trace.now reader pieces.now origin.now location value orders.old.items orders.new.items left.old.items left.new.items) }
-    ensures refused { IfErr result (IsRefusedBy (λ cause. (location : List ℕ) → IsOwnExact trace.now reader origin.now location value own → AreWholeRuns trace.now location value runs.now → IsPartlyRefused trace.now reader pieces.now origin.now location value cause)) }
+    ensures bars { OnOk result (AreRunsLeft trace.now orders.new.items left.new.items reader.now.read.value reader.now.operation reader.now.read.origin.now own reader.now.pieces.now runs.now) }
+    ensures only { OnOk result ((location : List ℕ) → IsOwnExact trace.now reader.now.operation reader.now.read.origin.now location reader.now.read.value own → AreWholeRuns trace.now location reader.now.read.value runs.now → TakesOnly trace.now reader.now.operation reader.now.pieces.now reader.now.read.origin.now location reader.now.read.value orders.old.items orders.new.items left.old.items left.new.items) }
+    ensures refused { IfErr result (IsRefusedBy (λ cause. (location : List ℕ) → IsOwnExact trace.now reader.now.operation reader.now.read.origin.now location reader.now.read.value own → AreWholeRuns trace.now location reader.now.read.value runs.now → IsPartlyRefused trace.now reader.now.operation reader.now.pieces.now reader.now.read.origin.now location reader.now.read.value cause)) }
 {
     for run in runs {
-        bar_taken_run(trace, reader, value, origin, own, run, pieces, orders, left)?;
+        bar_taken_run(trace, reader, own, run, orders, left)?;
     }
     Ok(())
 }
@@ -225,56 +218,55 @@ fn bar_taken_runs(
 /// Bars the initial value, if the reader may read it and a piece takes it. Returns whether it is left.
 fn bar_taken_start(
     trace: &Trace,
-    reader: OperationPlace,
-    location: &[u8],
-    value: u64,
-    origin: &Origin,
-    pieces: &SourcePieces,
+    reader: &ReaderWithPieces<'_, '_>,
     orders: &mut Vec<OrderPair>,
 ) -> Result<bool, ReasonRefusal>
     ensures grows { OnOk result (Grows orders.old.items orders.new.items) }
-    ensures bars { IfOk result (λ is_left. IsStartLeft trace.now orders.new.items is_left reader origin.now pieces.now location.now value) }
-    ensures only { OnOk result (AddsOnly orders.old.items orders.new.items (IsInitialOrder trace.now reader pieces.now origin.now location.now value)) }
-    ensures left { IfOk result (λ is_left. is_left ≡ true → IsInitialOther trace.now pieces.now origin.now location.now value) }
+    ensures bars { IfOk result (λ is_left. IsStartLeft trace.now orders.new.items is_left reader.now.operation reader.now.read.origin.now reader.now.pieces.now reader.now.read.location.now reader.now.read.value) }
+    ensures only { OnOk result (AddsOnly orders.old.items orders.new.items (IsInitialOrder trace.now reader.now.operation reader.now.pieces.now reader.now.read.origin.now reader.now.read.location.now reader.now.read.value)) }
+    ensures left { IfOk result (λ is_left. is_left ≡ true → IsInitialOther trace.now reader.now.pieces.now reader.now.read.origin.now reader.now.read.location.now reader.now.read.value) }
     ensures refused { IfErr result (IsRefusedBy (λ cause. ⊥)) }
 {
-    if !is_from_start(origin) || !is_held_at(trace.initial(), location, value) {
+    if !is_from_start(reader.read.origin)
+        || !is_held_at(trace.initial(), reader.read.location, reader.read.value)
+    {
         return Ok(false);
     }
-    let Some(x) = pieces.initial() else {
+    let Some(x) = reader.pieces.initial() else {
         return Ok(true);
     };
-    push_order(orders, reader, x)?;
+    push_order(orders, reader.operation, x)?;
     Ok(false)
 }
 
-/// Bars the sources of a reader of the value at the location that a piece takes, and keeps the others. Returns whether the initial value is left.
+/// Bars the sources of the reader that a piece takes, and keeps the others. Returns whether the initial value is left.
 fn bar_taken_sources(
     trace: &Trace,
     writers: &WriterTables,
-    reader: OperationPlace,
-    location: &[u8],
-    value: u64,
-    origin: &Origin,
-    pieces: &SourcePieces,
+    reader: &ReaderWithPieces<'_, '_>,
     orders: &mut Vec<OrderPair>,
     left: &mut Vec<LeftStretch>,
 ) -> Result<bool, ReasonRefusal>
     requires { HoldTables trace.now writers.now }
     ensures grows { OnOk result (Grows orders.old.items orders.new.items) }
-    ensures bars { IfOk result (λ is_left. AreSourcesLeft trace.now writers.now.by_value orders.new.items left.new.items is_left reader origin.now pieces.now location.now value) }
-    ensures only { OnOk result (AddsOnly orders.old.items orders.new.items (λ o. IsPieceOrder trace.now reader pieces.now origin.now location.now value o ⊎ IsInitialOrder trace.now reader pieces.now origin.now location.now value o)) }
-    ensures stretches { OnOk result (KeepsOnly left.old.items left.new.items (IsOtherStretch trace.now reader pieces.now origin.now location.now value)) }
-    ensures left { IfOk result (λ is_left. is_left ≡ true → IsInitialOther trace.now pieces.now origin.now location.now value) }
-    ensures refused { IfErr result (IsRefusedBy (IsPartlyRefused trace.now reader pieces.now origin.now location.now value)) }
+    ensures bars { IfOk result (λ is_left. AreSourcesLeft trace.now writers.now.by_value orders.new.items left.new.items is_left reader.now.operation reader.now.read.origin.now reader.now.pieces.now reader.now.read.location.now reader.now.read.value) }
+    ensures only { OnOk result (AddsOnly orders.old.items orders.new.items (λ o. IsPieceOrder trace.now reader.now.operation reader.now.pieces.now reader.now.read.origin.now reader.now.read.location.now reader.now.read.value o ⊎ IsInitialOrder trace.now reader.now.operation reader.now.pieces.now reader.now.read.origin.now reader.now.read.location.now reader.now.read.value o)) }
+    ensures stretches { OnOk result (KeepsOnly left.old.items left.new.items (IsOtherStretch trace.now reader.now.operation reader.now.pieces.now reader.now.read.origin.now reader.now.read.location.now reader.now.read.value)) }
+    ensures left { IfOk result (λ is_left. is_left ≡ true → IsInitialOther trace.now reader.now.pieces.now reader.now.read.origin.now reader.now.read.location.now reader.now.read.value) }
+    ensures refused { IfErr result (IsRefusedBy (IsPartlyRefused trace.now reader.now.operation reader.now.pieces.now reader.now.read.origin.now reader.now.read.location.now reader.now.read.value)) }
 {
     trace.recall_invariant();
-    let own = own_source(trace, &writers.by_location, reader, location, value, origin);
-    let runs = writers.by_value.runs(location, value);
-    bar_taken_runs(
-        trace, reader, value, origin, own, runs, pieces, orders, left,
-    )?;
-    let is_left = bar_taken_start(trace, reader, location, value, origin, pieces, orders)?;
+    let own = own_source(
+        trace,
+        &writers.by_location,
+        reader.operation,
+        reader.read.location,
+        reader.read.value,
+        reader.read.origin,
+    );
+    let runs = writers.by_value.runs(reader.read.location, reader.read.value);
+    bar_taken_runs(trace, reader, own, runs, orders, left)?;
+    let is_left = bar_taken_start(trace, reader, orders)?;
     Ok(is_left)
 }
 
@@ -295,30 +287,23 @@ pub fn left_sources<'a>(
     ensures left { IfOk result (AreOthers trace.now reader pieces.now) }
     ensures refused { IfErr result (IsRefusedBy (IsPartRefused trace.now reader pieces.now)) }
 {
-    let op = operation_of(trace, reader)?;
-    let Some(value) = op.value_read() else {
-        return Err(ReasonRefusal::For(ReasonCause::NoReader));
+    let read = value_read_by(trace, reader)?;
+    want_pieces(trace, reader, read.location, read.value, pieces)?;
+    let reader_with_pieces = ReaderWithPieces {
+        operation: reader,
+        read,
+        pieces,
     };
-    // What reads a value has an origin, so this is never refused.
-    let Some(origin) = origin(op) else {
-        return Err(ReasonRefusal::For(ReasonCause::NoReader));
-    };
-    let location = op.location().as_bytes();
-    want_pieces(trace, reader, location, value, pieces)?;
     let mut stretches = Vec::new(alloc);
     let is_initial_left = bar_taken_sources(
         trace,
         writers,
-        reader,
-        location,
-        value,
-        origin,
-        pieces,
+        &reader_with_pieces,
         orders,
         &mut stretches,
     )?;
     Ok(LeftSources {
-        location,
+        location: read.location,
         stretches,
         is_initial_left,
     })

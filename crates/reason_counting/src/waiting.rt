@@ -45,6 +45,14 @@ pub struct Waiter {
     pub awaited: WaitsFor,
 }
 
+/// Operations of a trace that wait, by the first of each process.
+#[derive(Clone, Copy)]
+struct WaitingSet<'a> {
+    trace: &'a Trace,
+    /// For each process the place of its first operation that waits, or 0 if none waits.
+    first: &'a [u32],
+}
+
 /// Returns whether a place comes before another one, or there is no other one. Places are counted from 1.
 fn is_earlier(place: u32, other: u32) -> bool
     ensures earlier { result ≡ true → (1 ≤ place) × ((other ≡ 0) ⊎ (place < other)) }
@@ -92,14 +100,14 @@ fn first_in(first: &[u32], process: u32) -> u32
 
 /// Refuses an operation that may come before all of its waiting set: one in whose process no operation waits at its place
 /// or before it.
-fn want_behind(trace: &Trace, first: &[u32], n: OperationPlace) -> Result<(), ReasonRefusal>
-    ensures known { OnOk result (IsKnown trace.now n) }
-    ensures behind { OnOk result ((members : List Place) → HoldMembers members first.now → IsBehindOne trace.now (map (named trace.now) members) (named trace.now n)) }
-    ensures refused { IfErr result (IsRefusedBy (λ cause. (members : List Place) → AreFirstKnown trace.now members first.now → IsBehindRefused trace.now members n cause)) }
+fn want_behind(waiting: &WaitingSet, n: OperationPlace) -> Result<(), ReasonRefusal>
+    ensures known { OnOk result (IsKnown waiting.now.trace.now n) }
+    ensures behind { OnOk result ((members : List Place) → HoldMembers members waiting.now.first.now → IsBehindOne waiting.now.trace.now (map (named waiting.now.trace.now) members) (named waiting.now.trace.now n)) }
+    ensures refused { IfErr result (IsRefusedBy (λ cause. (members : List Place) → AreFirstKnown waiting.now.trace.now members waiting.now.first.now → IsBehindRefused waiting.now.trace.now members n cause)) }
 {
-    trace.recall_invariant();
-    let _op = operation_of(trace, n)?;
-    let place = first_in(first, n.process);
+    waiting.trace.recall_invariant();
+    let _op = operation_of(waiting.trace, n)?;
+    let place = first_in(waiting.first, n.process);
     if place == 0 || n.place < place {
         return Err(ReasonRefusal::For(ReasonCause::SourceBefore));
     }
@@ -108,54 +116,45 @@ fn want_behind(trace: &Trace, first: &[u32], n: OperationPlace) -> Result<(), Re
 
 /// Appends that the operation stands before the other one, which may not come before all of the waiting set.
 fn wait_for_operation(
-    trace: &Trace,
-    first: &[u32],
+    waiting: &WaitingSet,
     operation: OperationPlace,
     other: OperationPlace,
     orders: &mut Vec<OrderPair>,
 ) -> Result<(), ReasonRefusal>
     ensures grows { OnOk result (Grows orders.old.items orders.new.items) }
-    ensures waits { OnOk result ((members : List Place) → HoldMembers members first.now → MustWait trace.now orders.new.items members operation) }
+    ensures waits { OnOk result ((members : List Place) → HoldMembers members waiting.now.first.now → MustWait waiting.now.trace.now orders.new.items members operation) }
     ensures only { OnOk result (AddsOnly orders.old.items orders.new.items (IsOrder operation other)) }
-    ensures refused { IfErr result (IsRefusedBy (λ cause. (members : List Place) → AreFirstKnown trace.now members first.now → IsWaitRefused trace.now members operation other cause)) }
+    ensures refused { IfErr result (IsRefusedBy (λ cause. (members : List Place) → AreFirstKnown waiting.now.trace.now members waiting.now.first.now → IsWaitRefused waiting.now.trace.now members operation other cause)) }
 {
-    trace.recall_invariant();
+    waiting.trace.recall_invariant();
     if are_same(operation, other) {
         return Err(ReasonRefusal::For(ReasonCause::BadCycle));
     }
-    let _op = operation_of(trace, operation)?;
-    want_behind(trace, first, other)?;
+    let _op = operation_of(waiting.trace, operation)?;
+    want_behind(waiting, other)?;
     push_order(orders, operation, other)?;
     Ok(())
 }
 
 /// Refuses a stretch whose operations may come before all of the waiting set. Its first one is asked alone, since the others stand after it.
-fn want_stretch_behind(
-    trace: &Trace,
-    first: &[u32],
-    stretch: &LeftStretch,
-) -> Result<(), ReasonRefusal>
-    ensures behind { OnOk result ((members : List Place) → HoldMembers members first.now → IsStretchBehind trace.now members stretch.now) }
-    ensures refused { IfErr result (IsRefusedBy (λ cause. (members : List Place) → AreFirstKnown trace.now members first.now → IsBehindRefused trace.now members (at_number stretch.now.process stretch.now.first) cause)) }
+fn want_stretch_behind(waiting: &WaitingSet, stretch: &LeftStretch) -> Result<(), ReasonRefusal>
+    ensures behind { OnOk result ((members : List Place) → HoldMembers members waiting.now.first.now → IsStretchBehind waiting.now.trace.now members stretch.now) }
+    ensures refused { IfErr result (IsRefusedBy (λ cause. (members : List Place) → AreFirstKnown waiting.now.trace.now members waiting.now.first.now → IsBehindRefused waiting.now.trace.now members (at_number stretch.now.process stretch.now.first) cause)) }
 {
     let n = OperationPlace {
         process: stretch.process,
         place: stretch.first,
     };
-    want_behind(trace, first, n)
+    want_behind(waiting, n)
 }
 
 /// Refuses stretches of which one's operations may come before all of the waiting set.
-fn want_all_behind(
-    trace: &Trace,
-    first: &[u32],
-    stretches: &[LeftStretch],
-) -> Result<(), ReasonRefusal>
-    ensures behind { OnOk result ((members : List Place) → HoldMembers members first.now → AreBehind trace.now members stretches.now) }
-    ensures refused { IfErr result (IsRefusedBy (λ cause. (members : List Place) → AreFirstKnown trace.now members first.now → IsSomeBehindRefused trace.now members stretches.now cause)) }
+fn want_all_behind(waiting: &WaitingSet, stretches: &[LeftStretch]) -> Result<(), ReasonRefusal>
+    ensures behind { OnOk result ((members : List Place) → HoldMembers members waiting.now.first.now → AreBehind waiting.now.trace.now members stretches.now) }
+    ensures refused { IfErr result (IsRefusedBy (λ cause. (members : List Place) → AreFirstKnown waiting.now.trace.now members waiting.now.first.now → IsSomeBehindRefused waiting.now.trace.now members stretches.now cause)) }
 {
     for stretch in stretches {
-        want_stretch_behind(trace, first, stretch)?;
+        want_stretch_behind(waiting, stretch)?;
     }
     Ok(())
 }
@@ -163,57 +162,47 @@ fn want_all_behind(
 /// Appends what bars the sources of the reader that a piece takes. The others may not come before all of the waiting set.
 fn wait_for_source(
     alloc: Global,
-    trace: &Trace,
+    waiting: &WaitingSet,
     writers: &WriterTables,
-    first: &[u32],
     reader: OperationPlace,
     pieces: &SourcePieces,
     orders: &mut Vec<OrderPair>,
 ) -> Result<(), ReasonRefusal>
-    requires { HoldTables trace.now writers.now }
+    requires { HoldTables waiting.now.trace.now writers.now }
     ensures grows { OnOk result (Grows orders.old.items orders.new.items) }
-    ensures waits { OnOk result ((members : List Place) → HoldMembers members first.now → MustWait trace.now orders.new.items members reader) }
-    ensures only { OnOk result (AddsOnly orders.old.items orders.new.items (IsPartOrder trace.now reader pieces.now)) }
-    ensures refused { IfErr result (IsRefusedBy (λ cause. (members : List Place) → AreFirstKnown trace.now members first.now → IsSourceWaitRefused trace.now members reader pieces.now cause)) }
+    ensures waits { OnOk result ((members : List Place) → HoldMembers members waiting.now.first.now → MustWait waiting.now.trace.now orders.new.items members reader) }
+    ensures only { OnOk result (AddsOnly orders.old.items orders.new.items (IsPartOrder waiting.now.trace.now reader pieces.now)) }
+    ensures refused { IfErr result (IsRefusedBy (λ cause. (members : List Place) → AreFirstKnown waiting.now.trace.now members waiting.now.first.now → IsSourceWaitRefused waiting.now.trace.now members reader pieces.now cause)) }
 {
-    let left = left_sources(alloc, trace, writers, reader, pieces, orders)?;
+    let left = left_sources(alloc, waiting.trace, writers, reader, pieces, orders)?;
     if left.is_initial_left {
         return Err(ReasonRefusal::For(ReasonCause::InitialLeft));
     }
-    want_all_behind(trace, first, left.stretches.as_slice())?;
+    want_all_behind(waiting, left.stretches.as_slice())?;
     Ok(())
 }
 
 /// Appends the orders of which one stands if the operation is the first of the waiting set.
 fn wait_for(
     alloc: Global,
-    trace: &Trace,
+    waiting: &WaitingSet,
     writers: &WriterTables,
-    first: &[u32],
     waiter: &Waiter,
     orders: &mut Vec<OrderPair>,
 ) -> Result<(), ReasonRefusal>
-    requires { HoldTables trace.now writers.now }
+    requires { HoldTables waiting.now.trace.now writers.now }
     ensures grows { OnOk result (Grows orders.old.items orders.new.items) }
-    ensures waits { OnOk result ((members : List Place) → HoldMembers members first.now → MustWait trace.now orders.new.items members waiter.now.operation) }
-    ensures only { OnOk result (AddsOnly orders.old.items orders.new.items (IsAwaitedOrder trace.now waiter.now.operation waiter.now.awaited)) }
-    ensures refused { IfErr result (IsRefusedBy (λ cause. (members : List Place) → AreFirstKnown trace.now members first.now → IsAwaitedRefused trace.now members waiter.now.operation waiter.now.awaited cause)) }
+    ensures waits { OnOk result ((members : List Place) → HoldMembers members waiting.now.first.now → MustWait waiting.now.trace.now orders.new.items members waiter.now.operation) }
+    ensures only { OnOk result (AddsOnly orders.old.items orders.new.items (IsAwaitedOrder waiting.now.trace.now waiter.now.operation waiter.now.awaited)) }
+    ensures refused { IfErr result (IsRefusedBy (λ cause. (members : List Place) → AreFirstKnown waiting.now.trace.now members waiting.now.first.now → IsAwaitedRefused waiting.now.trace.now members waiter.now.operation waiter.now.awaited cause)) }
 {
     match &waiter.awaited {
         WaitsFor::Operation(other) => {
-            wait_for_operation(trace, first, waiter.operation, *other, orders)?;
+            wait_for_operation(waiting, waiter.operation, *other, orders)?;
             Ok(())
         }
         WaitsFor::Source(pieces) => {
-            wait_for_source(
-                alloc,
-                trace,
-                writers,
-                first,
-                waiter.operation,
-                pieces,
-                orders,
-            )?;
+            wait_for_source(alloc, waiting, writers, waiter.operation, pieces, orders)?;
             Ok(())
         }
     }
@@ -241,7 +230,11 @@ pub fn waiting_clause(
     }
     let first = first_waiting(alloc, trace.processes().len(), waiters)?;
     for k in 0..waiters.len() {
-        wait_for(alloc, trace, writers, first.as_slice(), &waiters[k], orders)?;
+        let waiting = WaitingSet {
+            trace,
+            first: first.as_slice(),
+        };
+        wait_for(alloc, &waiting, writers, &waiters[k], orders)?;
     }
     Ok(())
 }

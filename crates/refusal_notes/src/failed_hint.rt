@@ -151,19 +151,27 @@ fn follow_literal(
     }
 }
 
-/// Follows the hint by the clause that it names: of an earlier step, of the list, or of the cube, whose literals are clauses after those
-/// of the list. Clauses of the list have the numbers from 1 on. Steps go first, since one may have dropped a clause of the list, or given
-/// its number to another.
+/// The clauses that hints of a step can name.
+#[derive(Drop)]
+struct NamedClauses<'d, L> {
+    /// Those of a formula, with the numbers from 1 on.
+    list: &'d L,
+    /// The literals of the cube, which are clauses after those of the list.
+    cube: &'d [Lit],
+    /// The steps before this one, with the clauses that they add.
+    earlier: &'d [Step],
+}
+
+/// Follows the hint by the clause that it names. Earlier steps go first, since one may have dropped a clause of the list, or given its number
+/// to another.
 fn follow_named<L: ClauseList>(
     alloc: Global,
     notes: &mut Notes,
     known: &mut KnownLiterals,
-    clauses: &L,
-    cube: &[Lit],
-    earlier: &[Step],
+    clauses: &NamedClauses<'_, L>,
     hint: PlacedHint,
 ) -> Result<bool, AllocError> {
-    match last_word(earlier, hint.id) {
+    match last_word(clauses.earlier, hint.id) {
         LastWord::Added(literals) => return follow(alloc, notes, known, hint, literals),
         LastWord::Dropped => {
             note_unknown(notes, hint);
@@ -172,11 +180,13 @@ fn follow_named<L: ClauseList>(
         LastWord::Silence => {}
     }
     let place = usize::try_from(hint.id.saturating_sub(1)).unwrap_or(usize::MAX);
-    let count = clauses.count();
+    let list = clauses.list;
+    let count = list.count();
     if place >= count {
-        return follow_literal(alloc, notes, known, cube.get(place - count), hint);
+        let literal = clauses.cube.get(place - count);
+        return follow_literal(alloc, notes, known, literal, hint);
     }
-    let clause = clauses.clause(place);
+    let clause = list.clause(place);
     follow(alloc, notes, known, hint, clause.as_slice())
 }
 
@@ -185,9 +195,7 @@ fn follow_named<L: ClauseList>(
 fn follow_hints<L: ClauseList>(
     alloc: Global,
     notes: &mut Notes,
-    clauses: &L,
-    cube: &[Lit],
-    earlier: &[Step],
+    clauses: &NamedClauses<'_, L>,
     literals: &[Lit],
     hints: &[i64],
 ) -> Result<(), AllocError> {
@@ -205,7 +213,7 @@ fn follow_hints<L: ClauseList>(
             id: hint.unsigned_abs(),
             place,
         };
-        if !follow_named(alloc, notes, &mut known, clauses, cube, earlier, placed)? {
+        if !follow_named(alloc, notes, &mut known, clauses, placed)? {
             return Ok(());
         }
     }
@@ -234,15 +242,12 @@ pub(crate) fn explain_hint_of<L: ClauseList>(
     {
         let hints = hints.to_vec(alloc)?;
         let earlier = &steps[..number];
-        follow_hints(
-            alloc,
-            notes,
-            clauses,
+        let named = NamedClauses {
+            list: clauses,
             cube,
             earlier,
-            literals.as_slice(),
-            hints.as_slice(),
-        )?;
+        };
+        follow_hints(alloc, notes, &named, literals.as_slice(), hints.as_slice())?;
     }
     Ok(())
 }

@@ -74,27 +74,40 @@ fn first_missing<'a>(survey: &Survey<'a>, come: &Come, count: usize, from: usize
     endings.len()
 }
 
-/// Gives what is wrong with an operation after the first `count` names. Its process is the one in this row, and the first ending of
-/// an operation that has not come is at `missing`. If several things are wrong, the order of the questions says which is named, and the
-/// definition has the same order.
+/// An operation that is judged.
+#[derive(Clone, Copy)]
+struct JudgedOp<'a> {
+    /// The row of its process.
+    process_row: Option<u64>,
+    /// Its name in the schedule.
+    name: &'a OpName,
+    /// What it does by the trace.
+    op: &'a Op,
+}
+
+/// Gives what is wrong with an operation after the first `count` names. The first ending of an operation that has not come is at `missing`. If
+/// several things are wrong, the order of the questions says which is named, and the definition has the same order.
 fn fault_of_op<'a>(
     survey: &Survey<'a>,
     come: &Come,
     memory: &Memory<'a>,
     missing: usize,
     count: usize,
-    row: Option<u64>,
-    name: &'a OpName,
-    op: &'a Op,
+    judged: JudgedOp<'a>,
 ) -> Option<IllegalCause>
     requires survey { IsSurvey survey.now }
     requires walk { IsWalk survey.now come.now.counts.items memory.now count }
     requires missing { IsFirstMissing (take count survey.now.names.now) survey.now.endings.items missing }
-    requires row { row ≡ number_of survey.now.processes name.now.process }
-    requires name { slice_get survey.now.names.now count ≡ Some name.now }
-    requires op { operation_at survey.now.trace.now name.now ≡ Some op.now }
-    ensures { result ≡ judgement.fault_of_op survey.now.trace.now (take count survey.now.names.now) name.now op.now }
+    requires row { judged.process_row ≡ number_of survey.now.processes judged.name.now.process }
+    requires name { slice_get survey.now.names.now count ≡ Some judged.name.now }
+    requires op { operation_at survey.now.trace.now judged.name.now ≡ Some judged.op.now }
+    ensures { result ≡ judgement.fault_of_op survey.now.trace.now (take count survey.now.names.now) judged.entry.name.now judged.entry.op.now }
 {
+    let JudgedOp {
+        process_row: row,
+        name,
+        op,
+    } = judged;
     let process = name.process.as_bytes();
     let place = name.place as usize;
     if has_come(survey, come, row, process, place, count) {
@@ -173,7 +186,12 @@ pub fn judge(alloc: Global, trace: &Trace, schedule: &Schedule) -> Result<Judgem
         };
         // This is of the names before this one, which has not come yet.
         let missing = first_missing(&survey, &come, i, next);
-        if let Some(cause) = fault_of_op(&survey, &come, &memory, missing, i, row, name, op) {
+        let judged = JudgedOp {
+            process_row: row,
+            name,
+            op,
+        };
+        if let Some(cause) = fault_of_op(&survey, &come, &memory, missing, i, judged) {
             return Ok(Judgement::Illegal(cause, i + 1));
         }
         // Only an operation without a fault is run: `come` is right only while program order holds.

@@ -7,12 +7,11 @@ ghost use Rattle.proof_log.specs.Answers.{IsWithin};
 
 use crate::leaves::leaves_of;
 use crate::seats::Seats;
-use cube_jobs::{Gate, OpenGate, Options, SearchFault};
+use cube_jobs::{Gate, OpenGate, SearchFault, SearchRun};
 use cube_queue::search;
 use cube_tree::Tree;
 use dimacs::ClauseList;
 use proof_log::{Answer, Attempt, SharingLearner};
-use std::alloc::Global;
 use std::sync::Wait;
 use std::thread::Threads;
 
@@ -21,27 +20,25 @@ use std::thread::Threads;
 const ROUND_CONFLICTS: u64 = 100;
 
 /// Runs a round: each of these leaves stands for a seat. Returns how many conflicts there were.
-fn run_round<R: Threads + Wait + Sync, L: ClauseList + Sync, S: SharingLearner + Drop + Send>(
-    alloc: Global,
-    rt: &R,
+fn run_round<R: Threads + Wait + Sync, L: ClauseList + Sync, S: SharingLearner + Drop + Send, G>(
+    run: &SearchRun<'_, R, G>,
     formula: &L,
     tree: &Tree,
     leaves: &[u32],
     seats: &mut Seats<S>,
     conflicts: u64,
-    options: &Options,
 ) -> Result<u64, SearchFault>
     requires { AreLeaves (cubes_of tree.now) leaves.now }
 {
     seats.begin_round(conflicts)?;
     let _results = search(
-        alloc,
-        rt,
+        run.alloc,
+        run.rt,
         formula,
         &seats.round,
         tree,
         leaves,
-        options,
+        run.options,
         &OpenGate,
     )?;
     Ok(seats.additions())
@@ -56,20 +53,17 @@ pub fn search_by_seats<
     S: SharingLearner + Drop + Send,
     G: Gate,
 >(
-    alloc: Global,
-    rt: &R,
+    run: &SearchRun<'_, R, G>,
     formula: &L,
     tree: &Tree,
     searches: Vec<Attempt<S>>,
     budget: u64,
-    options: &Options,
-    gate: &G,
 ) -> Result<Answer, SearchFault>
     ensures { IfOk result (λ answer. IsWithin budget answer) }
 {
-    let leaves = leaves_of(alloc, tree)?;
+    let leaves = leaves_of(run.alloc, tree)?;
     let count = searches.len().max(1) as u64;
-    let mut seats = Seats::new(alloc, searches)?;
+    let mut seats = Seats::new(run.alloc, searches)?;
     // Before the first round the only additions are those of the first search, which has begun before.
     let mut left = budget.saturating_sub(seats.additions());
     // Each round takes at least one conflict off what is left, so there is none after this number of rounds.
@@ -80,17 +74,8 @@ pub fn search_by_seats<
         }
         // All seats are charged what they may use, also those that wait, so the number of rounds does not depend on what they use.
         left = left.saturating_sub(conflicts.saturating_mul(count));
-        let had = run_round(
-            alloc,
-            rt,
-            formula,
-            tree,
-            leaves.as_slice(),
-            &mut seats,
-            conflicts,
-            options,
-        )?;
-        gate.conflicts(had);
+        let had = run_round(run, formula, tree, leaves.as_slice(), &mut seats, conflicts)?;
+        run.gate.conflicts(had);
         if let Some(answer) = seats.answer(budget)? {
             return Ok(answer);
         }

@@ -63,11 +63,11 @@ fn search_from<'a>(
     cube: &[Lit],
     first_id: u32,
     first: &mut Attempt<Search<'a>>,
-    has_another_course: bool,
     budget: u64,
 ) -> Result<Answer, AllocError>
     ensures { IfOk result (λ answer. IsWithin (first.old.log + budget) answer) }
 {
+    let has_another_course = suits_a_schedule(&first.search().trail);
     if !has_another_course {
         return search_alone(first, budget);
     }
@@ -93,16 +93,7 @@ pub(crate) fn search_begun<'a>(
 ) -> Result<Answer, AllocError>
     ensures { IfOk result (λ answer. IsWithin (first.old.log + budget) answer) }
 {
-    let has_another_course = suits_a_schedule(&first.search().trail);
-    let found = search_from(
-        alloc,
-        prepared,
-        cube,
-        first_id,
-        first,
-        has_another_course,
-        budget,
-    );
+    let found = search_from(alloc, prepared, cube, first_id, first, budget);
     prepared.add_conflicts(first.log.additions());
     found
 }

@@ -126,16 +126,17 @@ impl<'a> Search<'a> {
             return Ok(None);
         }
         let (clauses, steps, next) = self.unit_clauses(found.rests_on(), log)?;
-        let given = Premises {
-            steps,
-            clauses: clauses.as_slice(),
-        };
         let free = Free {
             clause: next,
             variable: self.variables.wrapping_add(1),
         };
+        let given = Premises {
+            steps,
+            clauses: clauses.as_slice(),
+            free,
+        };
         let known = known_order(self.encoding, &self.trail, reads_from);
-        refute(self.alloc, given, reads, found, known, free, budget)
+        refute(self.alloc, given, reads, found, known, budget)
     }
 
     /// Returns a derivation of at most `budget` steps, if there is a contradiction of readers and sources. The log has what was learned,

@@ -12,6 +12,7 @@ ghost use Rattle.verdict_report.specs.VerifyEngine.{ReportsLegalSchedule};
 ghost use Rattle.verdict_report.specs.declared.status.Status.{Status};
 ghost use Rattle.verdict_report.specs.declared.status.Status.TheVariants.{No, Unknown, Yes};
 
+use crate::core_sinks::CoreSinks;
 use cube_jobs::Gate;
 use dimacs::{Sink, SinkFault, write_whole};
 use schedule_text::schedule_reader::read_schedule;
@@ -111,17 +112,15 @@ pub fn run_certified_survey<
     surveyor: &S,
     trace: &mut T,
     hint: &mut U,
-    cert: &mut C,
-    names: &mut N,
-    part: &mut P,
+    sinks: &mut CoreSinks<C, N, P>,
     out: &mut W,
 ) -> Result<Status, Fault>
     ensures run { IsRunOfCertifiedSurvey
         (source_run T.handed_out T.is_at_end T.failures trace.old trace.new)
         (source_run U.handed_out U.is_at_end U.failures hint.old hint.new)
-        (sink_run C.written C.failures cert.old cert.new)
-        (sink_run N.written N.failures names.old names.new)
-        (sink_run P.written P.failures part.old part.new)
+        (sink_run C.written C.failures sinks.old.cert sinks.new.cert)
+        (sink_run N.written N.failures sinks.old.names sinks.new.names)
+        (sink_run P.written P.failures sinks.old.part sinks.new.part)
         (sink_run W.written W.failures out.old out.new)
         result }
     ensures consistent { result ≡ Ok Yes → ReportsLegalSchedule
@@ -129,17 +128,17 @@ pub fn run_certified_survey<
         (sink_run W.written W.failures out.old out.new) }
     ensures certified { result ≡ Ok No → CertifiesSurvey run.now.options.now
         (source_run T.handed_out T.is_at_end T.failures trace.old trace.new)
-        (sink_run C.written C.failures cert.old cert.new)
-        (sink_run N.written N.failures names.old names.new)
-        (sink_run P.written P.failures part.old part.new)
+        (sink_run C.written C.failures sinks.old.cert sinks.new.cert)
+        (sink_run N.written N.failures sinks.old.names sinks.new.names)
+        (sink_run P.written P.failures sinks.old.part sinks.new.part)
         (sink_run W.written W.failures out.old out.new) }
     ensures unknown { result ≡ Ok Unknown → TellsExtent run.now.options.now
         (source_run T.handed_out T.is_at_end T.failures trace.old trace.new)
         (sink_run W.written W.failures out.old out.new) }
     ensures silent { (status : Status) → result ≡ Ok status → (status ≡ No → ⊥) → TakeNothing (
-        sink_run C.written C.failures cert.old cert.new
-        ∷ sink_run N.written N.failures names.old names.new
-        ∷ sink_run P.written P.failures part.old part.new ∷ []) }
+        sink_run C.written C.failures sinks.old.cert sinks.new.cert
+        ∷ sink_run N.written N.failures sinks.old.names sinks.new.names
+        ∷ sink_run P.written P.failures sinks.old.part sinks.new.part ∷ []) }
     ensures answered { (status : Status) → result ≡ Ok status → AnswersSurvey run.now.options.now (S.finds surveyor.now)
         (source_run T.handed_out T.is_at_end T.failures trace.old trace.new)
         (source_run U.handed_out U.is_at_end U.failures hint.old hint.new)
@@ -147,9 +146,9 @@ pub fn run_certified_survey<
         status }
     ensures same_trace { T.path trace.new ≡ T.path trace.old }
     ensures same_hint { U.path hint.new ≡ U.path hint.old }
-    ensures same_cert { C.path cert.new ≡ C.path cert.old }
-    ensures same_names { N.path names.new ≡ N.path names.old }
-    ensures same_part { P.path part.new ≡ P.path part.old }
+    ensures same_cert { C.path sinks.new.cert ≡ C.path sinks.old.cert }
+    ensures same_names { N.path sinks.new.names ≡ N.path sinks.old.names }
+    ensures same_part { P.path sinks.new.part ≡ P.path sinks.old.part }
     ensures same_out { W.path out.new ≡ W.path out.old }
 {
     written_schedule_spells();
@@ -160,9 +159,9 @@ pub fn run_certified_survey<
     core_part_is_a_trace();
     let texts = read_two(run.alloc, trace, hint)?;
     let surveyed = survey_texts(run, surveyor, texts.0.as_slice(), texts.1.as_slice())?;
-    write_survey_certificate(run.alloc, &surveyed, cert)?;
-    write_names(run.alloc, &surveyed, names)?;
-    write_core_part(run.alloc, &surveyed, part)?;
+    write_survey_certificate(run.alloc, &surveyed, &mut sinks.cert)?;
+    write_names(run.alloc, &surveyed, &mut sinks.names)?;
+    write_core_part(run.alloc, &surveyed, &mut sinks.part)?;
     write_report(run.alloc, &surveyed, out)
 }
 

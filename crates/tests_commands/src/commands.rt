@@ -1,7 +1,7 @@
 //! Command lines over files in memory: what the standard streams take, and the exit status.
 
 use crate::memory_host::MemoryHost;
-use command_run::run;
+use command_run::{ProgramRun, run};
 use cube_jobs::OpenGate;
 use dimacs::ShortSink;
 use std::alloc::Global;
@@ -240,6 +240,34 @@ fn is_error(bytes: &[u8], case: &Case) -> bool {
     }
 }
 
+/// The exit status of a command line, and what the standard streams took.
+#[derive(Drop)]
+struct CommandEnding {
+    status: u8,
+    out: ShortSink,
+    err: ShortSink,
+}
+
+/// Gives how the command line ends on this host, with streams that take at most this number of bytes a call.
+fn ending_of<'p, R: Threads + Wait + Sync>(
+    alloc: Global,
+    rt: &R,
+    host: &mut MemoryHost<'p>,
+    words: &'p [&'p str],
+    most: usize,
+) -> CommandEnding {
+    let mut out = ShortSink::new(alloc, most);
+    let mut err = ShortSink::new(alloc, most);
+    let program = ProgramRun {
+        alloc,
+        rt,
+        progress: &OpenGate,
+        is_terminal: false,
+    };
+    let status = run(&program, host, words, &mut out, &mut err);
+    CommandEnding { status, out, err }
+}
+
 /// Asserts how the command line of the case ends, with files and streams that move a byte a call.
 fn assert_case<R: Threads + Wait + Abort + Sync>(
     alloc: Global,
@@ -248,18 +276,14 @@ fn assert_case<R: Threads + Wait + Abort + Sync>(
     case: &Case,
 ) {
     let mut host = MemoryHost::new(alloc, &FILES, 1);
-    let mut out = ShortSink::new(alloc, 1);
-    let mut err = ShortSink::new(alloc, 1);
-    let status = run(
-        alloc, rt, &OpenGate, &mut host, case.words, false, &mut out, &mut err,
-    );
-    assert!(rt; status == case.status, "the status of case {number}");
+    let ending = ending_of(alloc, rt, &mut host, case.words, 1);
+    assert!(rt; ending.status == case.status, "the status of case {number}");
     assert!(rt;
-        out.as_slice() == case.out.as_bytes(),
+        ending.out.as_slice() == case.out.as_bytes(),
         "standard output of case {number}"
     );
     assert!(rt;
-        is_error(err.as_slice(), case),
+        is_error(ending.err.as_slice(), case),
         "standard error of case {number}"
     );
 }
@@ -282,14 +306,10 @@ fn assert_prints<R: Threads + Wait + Abort + Sync>(
     is_answer: bool,
 ) {
     let mut host = MemoryHost::new(alloc, &FILES, 1);
-    let mut out = ShortSink::new(alloc, 100);
-    let mut err = ShortSink::new(alloc, 100);
-    let status = run(
-        alloc, rt, &OpenGate, &mut host, words, false, &mut out, &mut err,
-    );
-    assert!(rt; status == if is_answer { 0 } else { 2 });
-    assert!(rt; out.as_slice().is_empty() != is_answer);
-    assert!(rt; err.as_slice().is_empty() == is_answer);
+    let ending = ending_of(alloc, rt, &mut host, words, 100);
+    assert!(rt; ending.status == if is_answer { 0 } else { 2 });
+    assert!(rt; ending.out.as_slice().is_empty() != is_answer);
+    assert!(rt; ending.err.as_slice().is_empty() == is_answer);
 }
 
 #[test]
@@ -303,13 +323,9 @@ fn prints_help_or_what_is_wrong(rt: HostRuntime) {
 /// Asserts that the command line searches with the options of its test, and leaves a certificate in the file that it makes.
 fn assert_certifies<R: Threads + Wait + Abort + Sync>(alloc: Global, rt: &R, words: &[&str]) {
     let mut host = MemoryHost::new(alloc, &FILES, 100);
-    let mut out = ShortSink::new(alloc, 100);
-    let mut err = ShortSink::new(alloc, 100);
-    let status = run(
-        alloc, rt, &OpenGate, &mut host, words, false, &mut out, &mut err,
-    );
-    assert!(rt; status == 1);
-    assert!(rt; err.as_slice().is_empty());
+    let ending = ending_of(alloc, rt, &mut host, words, 100);
+    assert!(rt; ending.status == 1);
+    assert!(rt; ending.err.as_slice().is_empty());
     let Some(search) = host.searched() else {
         panic!(rt; "nothing was searched")
     };
@@ -351,14 +367,10 @@ fn searches_with_the_options_and_writes_the_certificate(rt: HostRuntime) {
 /// Asserts that the command line ends with `Device` if the file of the certificate cannot be made, and that nothing is searched.
 fn assert_not_made<R: Threads + Wait + Abort + Sync>(alloc: Global, rt: &R, words: &[&str]) {
     let mut host = MemoryHost::new(alloc, &FILES, 100).read_only();
-    let mut out = ShortSink::new(alloc, 100);
-    let mut err = ShortSink::new(alloc, 100);
-    let status = run(
-        alloc, rt, &OpenGate, &mut host, words, false, &mut out, &mut err,
-    );
-    assert!(rt; status == 4);
-    assert!(rt; out.as_slice().is_empty());
-    assert!(rt; err.as_slice() == "refused: device\n".as_bytes());
+    let ending = ending_of(alloc, rt, &mut host, words, 100);
+    assert!(rt; ending.status == 4);
+    assert!(rt; ending.out.as_slice().is_empty());
+    assert!(rt; ending.err.as_slice() == "refused: device\n".as_bytes());
     assert!(rt; host.searched().is_none());
 }
 
@@ -396,17 +408,11 @@ fn assert_surveys<R: Threads + Wait + Abort + Sync>(
         "made",
     ];
     let mut host = MemoryHost::new(alloc, &FILES, 100);
-    let mut out = ShortSink::new(alloc, 100);
-    let mut err = ShortSink::new(alloc, 100);
-    let status = run(
-        alloc, rt, &OpenGate, &mut host, &words, false, &mut out, &mut err,
-    );
-    assert!(rt; status == 1);
-    assert!(rt;
-        out.as_slice()
-            .starts_with("INCONSISTENT operations=1 cubes=".as_bytes())
-    );
-    assert!(rt; err.as_slice().is_empty());
+    let ending = ending_of(alloc, rt, &mut host, &words, 100);
+    assert!(rt; ending.status == 1);
+    let out = ending.out.as_slice();
+    assert!(rt; out.starts_with("INCONSISTENT operations=1 cubes=".as_bytes()));
+    assert!(rt; ending.err.as_slice().is_empty());
     let Some(search) = host.searched() else {
         panic!(rt; "nothing was surveyed")
     };

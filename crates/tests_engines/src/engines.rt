@@ -6,4 +6,6 @@ mod judging;
 mod part_rechecks;
 mod parts;
 mod rechecks;
+mod text_runs;
 mod verdicts;
+mod wanted_runs;

@@ -19,7 +19,7 @@ use crate::refutation::Refutation;
 use crate::rounds::search_in_rounds;
 use beam_model::model_by_beams;
 use clause_blocks::trace_clauses::TraceClauses;
-use cube_jobs::{Gate, Options, SearchFault};
+use cube_jobs::{Gate, Options, SearchFault, SearchRun};
 use cube_tree::grow;
 use dimacs::{Assignment, ClauseList, Cube};
 use plain_lists::PlainList;
@@ -147,7 +147,13 @@ fn search_before_cubes<R: Threads + Wait + Sync, G: Gate>(
     }
     let tree = grow(alloc, layout, SEATS_DEPTH)?;
     let seats = prepared.begin_seats(alloc, first)?;
-    let answer = search_by_seats(alloc, rt, clauses, &tree, seats, budget, options, gate)?;
+    let run = SearchRun {
+        alloc,
+        rt,
+        options,
+        gate,
+    };
+    let answer = search_by_seats(&run, clauses, &tree, seats, budget)?;
     prepared.know(splits.len(), answer);
     Ok(())
 }

@@ -10,7 +10,7 @@ ghost use Rattle.trace_decision.specs.Rounds.{AreOfUnanswered, HaveEnded, IsConf
 use crate::decided::{Decided, Next};
 use crate::splitting::split_all;
 use clause_blocks::trace_clauses::TraceClauses;
-use cube_jobs::{Gate, Options, SearchFault, Settled};
+use cube_jobs::{Gate, Options, SearchFault, SearchRun, Settled};
 use cube_queue::search;
 use cube_tree::{Tree, grow};
 use dimacs::MAX_CUBE_LITERALS;
@@ -32,79 +32,61 @@ fn unanswered(alloc: Global, _tree: &Tree, ledger: &Ledger) -> Result<Vec<u32>, 
 
 /// The results of the leaves that have no answer.
 fn search_unanswered<R: Threads + Wait + Sync, S: CubeSolver + Sync, G: Gate + Sync>(
-    alloc: Global,
-    rt: &R,
+    run: &SearchRun<'_, R, G>,
     clauses: &TraceClauses,
     solver: &S,
     tree: &Tree,
     ledger: &Ledger,
-    options: &Options,
-    gate: &G,
 ) -> Result<Vec<Settled>, SearchFault>
     requires { cubes_in ledger.now ≡ cubes_of tree.now }
     ensures { IfOk result (λ results. AreOfUnanswered (clauses_of clauses.now) ledger.now results.items) }
 {
-    let which = unanswered(alloc, tree, ledger)?;
+    let which = unanswered(run.alloc, tree, ledger)?;
     search(
-        alloc,
-        rt,
+        run.alloc,
+        run.rt,
         clauses,
         solver,
         tree,
         which.as_slice(),
-        options,
-        gate,
+        run.options,
+        run.gate,
     )
 }
 
 /// Searches the leaves that have no answer, enters what is found, and gives the verdict that follows from what was answered for all leaves.
 fn search_and_confirm<R: Threads + Wait + Sync, S: CubeSolver + Sync, G: Gate + Sync>(
-    alloc: Global,
-    rt: &R,
+    run: &SearchRun<'_, R, G>,
     clauses: &TraceClauses,
     solver: &S,
     tree: &Tree,
     ledger: &mut Ledger,
-    options: &Options,
-    gate: &G,
 ) -> Result<Verdict, SearchFault>
     requires { cubes_in ledger.old ≡ cubes_of tree.now }
     ensures cubes { cubes_in ledger.new ≡ cubes_of tree.now }
     ensures verdict { IfOk result (λ verdict. IsVerdict (clauses_of clauses.now) ledger.new verdict) }
     ensures searched { OnOk result (IsSearched (clauses_of clauses.now) ledger.old ledger.new) }
 {
-    let results = search_unanswered(alloc, rt, clauses, solver, tree, ledger, options, gate)?;
+    let results = search_unanswered(run, clauses, solver, tree, ledger)?;
     enter_all(ledger, results);
-    let verdict = ledger.confirm(alloc, rt, clauses, options.workers())?;
+    let verdict = ledger.confirm(run.alloc, run.rt, clauses, run.options.workers())?;
     Ok(verdict)
 }
 
 /// Searches the leaves that have no answer, enters what is found, and confirms what was answered for all leaves.
 fn search_open<R: Threads + Wait + Sync, S: CubeSolver + Sync, G: Gate + Sync>(
-    alloc: Global,
-    rt: &R,
+    run: &SearchRun<'_, R, G>,
     clauses: &TraceClauses,
     solver: &S,
     tree: Tree,
     ledger: Ledger,
-    options: &Options,
-    gate: &G,
 ) -> Result<Decided, SearchFault>
     requires { cubes_in ledger ≡ cubes_of tree }
     ensures confirmed { IfOk result (λ decided. IsConfirmed (clauses_of clauses.now) decided) }
     ensures searched { IfOk result (λ decided. IsSearched (clauses_of clauses.now) ledger decided.ledger) }
 {
     let mut ledger = ledger;
-    let verdict = search_and_confirm(
-        alloc,
-        rt,
-        clauses,
-        solver,
-        &tree,
-        &mut ledger,
-        options,
-        gate,
-    )?;
+    let verdict = search_and_confirm(run, clauses, solver, &tree, &mut ledger)?;
     Ok(Decided {
         tree,
         ledger,
@@ -128,30 +110,24 @@ fn first_leaves(
 
 /// The first round: the leaves of the first tree are searched.
 fn search_first<R: Threads + Wait + Sync, S: CubeSolver + Sync, G: Gate + Sync>(
-    alloc: Global,
-    rt: &R,
+    run: &SearchRun<'_, R, G>,
     clauses: &TraceClauses,
     solver: &S,
-    options: &Options,
-    gate: &G,
 ) -> Result<Decided, SearchFault>
     ensures confirmed { IfOk result (λ decided. IsConfirmed (clauses_of clauses.now) decided) }
-    ensures searched { IfOk result (λ decided. IsSearched (clauses_of clauses.now) (map empty_slot (cubes_of (first_tree clauses.now options.now.split))) decided.ledger) }
+    ensures searched { IfOk result (λ decided. IsSearched (clauses_of clauses.now) (map empty_slot (cubes_of (first_tree clauses.now run.now.options.now.split))) decided.ledger) }
 {
-    let (tree, ledger) = first_leaves(alloc, clauses, options)?;
-    search_open(alloc, rt, clauses, solver, tree, ledger, options, gate)
+    let (tree, ledger) = first_leaves(run.alloc, clauses, run.options)?;
+    search_open(run, clauses, solver, tree, ledger)
 }
 
 /// One more round, where the verdict is open and some open leaf can be split: the open leaves are split, and the new ones are searched.
 fn search_again<R: Threads + Wait + Sync, S: CubeSolver + Sync, G: Gate + Sync>(
-    alloc: Global,
-    rt: &R,
+    run: &SearchRun<'_, R, G>,
     clauses: &TraceClauses,
     solver: &S,
     variables: &[u32],
     decided: Decided,
-    options: &Options,
-    gate: &G,
 ) -> Result<Next, SearchFault>
     requires { IsConfirmed (clauses_of clauses.now) decided }
     ensures { IfOk result (λ next. IsNext (clauses_of clauses.now) variables.now decided next) }
@@ -169,7 +145,7 @@ fn search_again<R: Threads + Wait + Sync, S: CubeSolver + Sync, G: Gate + Sync>(
         }));
     };
     let before = ledger.leaves();
-    let (tree, ledger) = split_all(alloc, variables, tree, ledger, open.as_slice())?;
+    let (tree, ledger) = split_all(run.alloc, variables, tree, ledger, open.as_slice())?;
     // No leaf was split, so a further round would have nothing to search.
     if ledger.leaves() == before {
         return Ok(Next::Ended(Decided {
@@ -178,7 +154,7 @@ fn search_again<R: Threads + Wait + Sync, S: CubeSolver + Sync, G: Gate + Sync>(
             verdict,
         }));
     }
-    let after = search_open(alloc, rt, clauses, solver, tree, ledger, options, gate)?;
+    let after = search_open(run, clauses, solver, tree, ledger)?;
     Ok(Next::Searched(after))
 }
 
@@ -201,19 +177,16 @@ pub(crate) fn search_in_rounds<R: Threads + Wait + Sync, S: CubeSolver + Sync, G
     ensures cubes { IfOk result (λ decided. cubes_in decided.ledger ≡ cubes_of decided.tree) }
     ensures ended { IfOk result (λ decided. HaveEnded clauses.now options.now decided.ledger decided.verdict) }
 {
+    let run = SearchRun {
+        alloc,
+        rt,
+        options,
+        gate,
+    };
     let variables = split_variables(alloc, clauses)?;
-    let mut decided = search_first(alloc, rt, clauses, solver, options, gate)?;
+    let mut decided = search_first(&run, clauses, solver)?;
     for _round in 1..options.rounds() {
-        match search_again(
-            alloc,
-            rt,
-            clauses,
-            solver,
-            variables.as_slice(),
-            decided,
-            options,
-            gate,
-        )? {
+        match search_again(&run, clauses, solver, variables.as_slice(), decided)? {
             Next::Ended(last) => return Ok(last),
             Next::Searched(next) => decided = next,
         }

@@ -150,20 +150,26 @@ fn new_write(
     })
 }
 
+/// The values of an update: what it reads, and what it leaves.
+#[derive(Clone, Copy)]
+struct UpdateValues {
+    read: u64,
+    left: u64,
+}
+
 fn new_update(
     alloc: Global,
     location: &Name,
-    read: u64,
-    left: u64,
+    values: UpdateValues,
     origin: &Origin,
     span: Option<Span>,
 ) -> Result<Op, AllocError>
-    ensures { IfOk result (λ op. op ≡ Update location.now read left origin.now span) }
+    ensures { IfOk result (λ op. op ≡ Update location.now values.read values.left origin.now span) }
 {
     Ok(Op::Update {
         location: Name::copy_of(alloc, location.as_bytes())?,
-        read,
-        left,
+        read: values.read,
+        left: values.left,
         origin: copy_of_origin(alloc, origin)?,
         span,
     })
@@ -192,17 +198,16 @@ fn update_stays(
     alloc: Global,
     keeps: bool,
     location: &Name,
-    read: u64,
-    left: u64,
+    values: UpdateValues,
     origin: &Origin,
     span: Option<Span>,
 ) -> Result<Op, AllocError>
-    ensures { IfOk result (λ op. op ≡ (if keeps then Update location.now read left origin.now span else Write location.now left span)) }
+    ensures { IfOk result (λ op. op ≡ (if keeps then Update location.now values.read values.left origin.now span else Write location.now values.left span)) }
 {
     if keeps {
-        new_update(alloc, location, read, left, origin, span)
+        new_update(alloc, location, values, origin, span)
     } else {
-        new_write(alloc, location, left, span)
+        new_write(alloc, location, values.left, span)
     }
 }
 
@@ -241,7 +246,11 @@ fn stays_of<'a>(
         } => {
             let name = location.as_bytes();
             let keeps = keeps_read(alloc, selection, reader, name, *read, origin)?;
-            let new = update_stays(alloc, keeps, location, *read, *left, origin, *span)?;
+            let values = UpdateValues {
+                read: *read,
+                left: *left,
+            };
+            let new = update_stays(alloc, keeps, location, values, origin, *span)?;
             Ok(Some(new))
         }
     }

@@ -152,25 +152,31 @@ fn read_read(
     })
 }
 
+/// The words of the values of a read-and-write: of what it reads, and of what it leaves.
+#[derive(Clone, Copy)]
+struct UpdateWords<'a> {
+    read: &'a [u8],
+    left: &'a [u8],
+}
+
 /// Gives what the line of a read-and-write adds.
 fn read_update(
     alloc: Global,
     limits: Limits,
     location: &[u8],
-    read: &[u8],
-    left: &[u8],
+    words: UpdateWords<'_>,
     source: ReadsFrom<'_>,
     times: TimesSaid<'_>,
 ) -> Result<Op, LineRefusal>
-    ensures refused { IfErr result (IsRefusedFor (number_fault (has_numbers limits (Update location.now read.now left.now (said_source source.entry) (said_times times.entry))))) }
-    ensures fine { IfOk result (λ _. has_numbers limits (Update location.now read.now left.now (said_source source.entry) (said_times times.entry)) ≡ true) }
-    ensures said { IfOk result (λ op. op_statement op ≡ Update location.now read.now left.now (said_source source.entry) (said_times times.entry)) }
+    ensures refused { IfErr result (IsRefusedFor (number_fault (has_numbers limits (Update location.now words.entry.read.now words.entry.left.now (said_source source.entry) (said_times times.entry))))) }
+    ensures fine { IfOk result (λ _. has_numbers limits (Update location.now words.entry.read.now words.entry.left.now (said_source source.entry) (said_times times.entry)) ≡ true) }
+    ensures said { IfOk result (λ op. op_statement op ≡ Update location.now words.entry.read.now words.entry.left.now (said_source source.entry) (said_times times.entry)) }
     ensures fits { IfOk result (λ op. op_fits op ≡ true) }
 {
-    let Some(read) = read_value(read) else {
+    let Some(read) = read_value(words.read) else {
         return Err(PlainFault::For(TraceCause::BadNumber));
     };
-    let (location, left) = read_located(alloc, location, left)?;
+    let (location, left) = read_located(alloc, location, words.left)?;
     let origin = read_origin(alloc, limits, source)?;
     let span = read_span(times)?;
     Ok(Op::Update {
@@ -250,9 +256,11 @@ pub fn read_entry(
         Statement::Write(location, value, times) => Ok(Entry::Operation(read_write(
             alloc, limits, location, value, times,
         )?)),
-        Statement::Update(location, read, left, source, times) => Ok(Entry::Operation(read_update(
-            alloc, limits, location, read, left, source, times,
-        )?)),
+        Statement::Update(location, read, left, source, times) => {
+            let words = UpdateWords { read, left };
+            let op = read_update(alloc, limits, location, words, source, times)?;
+            Ok(Entry::Operation(op))
+        }
         Statement::Before(process, place, other, other_place) => {
             read_pair(alloc, limits, process, place, other, other_place)
         }

@@ -86,24 +86,34 @@ fn numbered(alloc: Global, writers: &[usize], first: u32) -> Result<Vec<FinalCho
     Ok(made)
 }
 
-/// Gives what the layout keeps of the k-th final value, which is this entry. Its variables begin with the first one. The table
-/// has the initial values.
+/// A final value, and where its variables begin.
+#[derive(Clone, Copy)]
+struct NumberedFinal<'a> {
+    /// Its number among the final values, from 0 on.
+    number: usize,
+    /// Its location, and the value.
+    value: &'a (Name, u64),
+    /// The first of its variables.
+    first: u32,
+}
+
+/// Gives what the layout keeps of this final value. The table has the initial values.
 fn final_table<'a>(
     alloc: Global,
     numbering: &Numbering<'_>,
     initial: &NameTable<'a>,
     trace: &Trace,
-    k: usize,
-    entry: &'a (Name, u64),
-    first: u32,
+    numbered_final: NumberedFinal<'a>,
 ) -> Result<FinalTable, AllocError>
     requires same { numbering.now ≡ trace.now }
     requires initial { (location : List ℕ) → number_of initial.now location ≡ value_of trace.now.initial location }
     requires few { operation_count trace.now ≤ 160 }
     requires is_trace { IsTrace trace.now }
-    requires first { first ≡ finals.first_final trace.now k }
-    ensures { IfOk result (λ table. table ≡ tables.final_table_of trace.now k entry.now) }
+    requires first { numbered_final.first ≡ finals.first_final trace.now numbered_final.number }
+    ensures { IfOk result (λ table. table ≡ tables.final_table_of trace.now numbered_final.entry.number numbered_final.entry.value.now) }
 {
+    let entry = numbered_final.value;
+    let first = numbered_final.first;
     let writers = numbering.writers(alloc, entry.0.as_bytes())?;
     let leavers = leavers(alloc, numbering, entry, writers.as_slice())?;
     let choices = numbered(alloc, leavers.as_slice(), first)?;
@@ -147,7 +157,12 @@ pub(crate) fn final_tables(
     let mut made = Vec::with_capacity(alloc, values.len())?;
     let mut next = first;
     for k in 0..values.len() {
-        let table = final_table(alloc, numbering, &initial, trace, k, &values[k], next)?;
+        let numbered_final = NumberedFinal {
+            number: k,
+            value: &values[k],
+            first: next,
+        };
+        let table = final_table(alloc, numbering, &initial, trace, numbered_final)?;
         next += final_variable_count(&table);
         made.push(table)?;
     }

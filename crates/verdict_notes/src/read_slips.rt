@@ -9,6 +9,13 @@ use std::alloc::Global;
 use trace_semantics::operation::Op;
 use trace_semantics::trace::Trace;
 
+/// A trace, and the places under which its operations are named.
+#[derive(Clone, Copy)]
+struct ShownTrace<'t> {
+    trace: &'t Trace,
+    places: &'t ShownPlaces,
+}
+
 /// A writer, by the number of its process and its place there, both counted from 0.
 #[derive(Clone, Copy)]
 struct PlacedWriter {
@@ -85,23 +92,19 @@ impl FoundWriter {
 }
 
 /// Adds the name of the writer.
-fn add_writer(sentence: &mut Sentence, trace: &Trace, places: &ShownPlaces, writer: PlacedWriter) {
-    if let Some(process) = trace.processes().get(writer.number) {
-        sentence.add_name(process.name.as_bytes(), places.at(writer.number, writer.k));
+fn add_writer(sentence: &mut Sentence, shown: ShownTrace<'_>, writer: PlacedWriter) {
+    if let Some(process) = shown.trace.processes().get(writer.number) {
+        let place = shown.places.at(writer.number, writer.k);
+        sentence.add_name(process.name.as_bytes(), place);
     }
 }
 
 /// Adds who writes this, or else that it is an initial value. The caller has found that the trace has one of the two.
-fn add_origin(
-    sentence: &mut Sentence,
-    trace: &Trace,
-    places: &ShownPlaces,
-    wanted: WriterWanted<'_>,
-) {
-    match wanted.found(trace).first() {
+fn add_origin(sentence: &mut Sentence, shown: ShownTrace<'_>, wanted: WriterWanted<'_>) {
+    match wanted.found(shown.trace).first() {
         Some(writer) => {
             sentence.add(&[b", which "]);
-            add_writer(sentence, trace, places, writer);
+            add_writer(sentence, shown, writer);
             sentence.add(&[b" writes?"])
         }
         None => sentence.add(&[b", which has an init line?"]),
@@ -112,8 +115,7 @@ fn add_origin(
 fn note_near_location(
     alloc: Global,
     notes: &mut Notes,
-    trace: &Trace,
-    places: &ShownPlaces,
+    shown: ShownTrace<'_>,
     location: &[u8],
     near: &[u8],
 ) {
@@ -123,7 +125,7 @@ fn note_near_location(
         location: Some(near),
         value: None,
     };
-    add_origin(&mut sentence, trace, places, wanted);
+    add_origin(&mut sentence, shown, wanted);
     sentence.note(notes);
 }
 
@@ -131,8 +133,7 @@ fn note_near_location(
 fn note_near_value(
     alloc: Global,
     notes: &mut Notes,
-    trace: &Trace,
-    places: &ShownPlaces,
+    shown: ShownTrace<'_>,
     location: &[u8],
     value: u64,
     near: u64,
@@ -146,7 +147,7 @@ fn note_near_value(
         location: Some(location),
         value: Some(near),
     };
-    add_origin(&mut sentence, trace, places, wanted);
+    add_origin(&mut sentence, shown, wanted);
     sentence.note(notes);
 }
 
@@ -154,8 +155,7 @@ fn note_near_value(
 fn note_only_writer(
     alloc: Global,
     notes: &mut Notes,
-    trace: &Trace,
-    places: &ShownPlaces,
+    shown: ShownTrace<'_>,
     location: &[u8],
     value: u64,
 ) -> bool {
@@ -163,10 +163,10 @@ fn note_only_writer(
         location: None,
         value: Some(value),
     };
-    let FoundWriter::One(writer) = wanted.found(trace) else {
+    let FoundWriter::One(writer) = wanted.found(shown.trace) else {
         return false;
     };
-    let Some(process) = trace.processes().get(writer.number) else {
+    let Some(process) = shown.trace.processes().get(writer.number) else {
         return false;
     };
     let Some(op) = process.operations.as_slice().get(writer.k) else {
@@ -179,7 +179,7 @@ fn note_only_writer(
     let mut sentence = Sentence::new(alloc);
     sentence.add_value(value);
     sentence.add(&[b" is written by "]);
-    add_writer(&mut sentence, trace, places, writer);
+    add_writer(&mut sentence, shown, writer);
     sentence.add(&[b" alone, to ", written]);
     sentence.note(notes);
     true
@@ -223,17 +223,18 @@ pub fn note_slip(
         return false;
     };
     let trace = reader.trace;
+    let shown = ShownTrace { trace, places };
     let location = reader.op.location().as_bytes();
     if let Some(near) = meant_location(trace, location, value) {
-        note_near_location(alloc, notes, trace, places, location, near);
+        note_near_location(alloc, notes, shown, location, near);
         return true;
     }
-    if note_only_writer(alloc, notes, trace, places, location, value) {
+    if note_only_writer(alloc, notes, shown, location, value) {
         return true;
     }
     match near_value(trace, location, value) {
         Some(near) => {
-            note_near_value(alloc, notes, trace, places, location, value, near);
+            note_near_value(alloc, notes, shown, location, value, near);
             true
         }
         None => false,
@@ -250,6 +251,7 @@ pub fn note_final_slip(
     value: u64,
 ) {
     if let Some(near) = meant_location(trace, location, value) {
-        note_near_location(alloc, notes, trace, places, location, near);
+        let shown = ShownTrace { trace, places };
+        note_near_location(alloc, notes, shown, location, near);
     }
 }

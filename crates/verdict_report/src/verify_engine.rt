@@ -13,6 +13,7 @@ use crate::fault::Fault;
 use crate::inputs::read_one;
 use crate::source::Source;
 use crate::status::Status;
+use crate::verify_run::VerifyRun;
 use cube_jobs::{Gate, Options};
 use dimacs::{Sink, write_whole};
 use std::alloc::Global;
@@ -62,11 +63,8 @@ pub fn run_verify<R: Threads + Wait + Sync, T: Source, G: Gate + Sync, W: Sink>(
 /// Where memory runs out or a sink fails while the certificate or the report is written, a prefix of the two may have been written, the
 /// certificate first. Before the other refusals, which are those of `run_verify`, nothing was.
 pub fn run_certified_verify<R: Threads + Wait + Sync, T: Source, G: Gate + Sync, C: Sink, W: Sink>(
-    alloc: Global,
-    rt: &R,
+    run: &VerifyRun<'_, R, G>,
     trace: &mut T,
-    options: &Options,
-    gate: &G,
     cert: &mut C,
     out: &mut W,
 ) -> Result<Status, Fault>
@@ -81,7 +79,7 @@ pub fn run_certified_verify<R: Threads + Wait + Sync, T: Source, G: Gate + Sync,
     ensures certified { result ≡ Ok No → WritesAcceptedCertificate
         (source_run T.handed_out T.is_at_end T.failures trace.old trace.new)
         (sink_run C.written C.failures cert.old cert.new) }
-    ensures unknown { result ≡ Ok Unknown → TellsOpen options.now
+    ensures unknown { result ≡ Ok Unknown → TellsOpen run.now.options.now
         (source_run T.handed_out T.is_at_end T.failures trace.old trace.new)
         (sink_run W.written W.failures out.old out.new) }
     ensures same_trace { T.path trace.new ≡ T.path trace.old }
@@ -89,10 +87,10 @@ pub fn run_certified_verify<R: Threads + Wait + Sync, T: Source, G: Gate + Sync,
     ensures same_out { W.path out.new ≡ W.path out.old }
 {
     certificate_is_accepted();
-    let text = read_one(alloc, trace)?;
-    let decision = decide_text(alloc, rt, text.as_slice(), options, gate)?;
-    write_certificate(alloc, &decision, cert)?;
-    write_report(alloc, &decision, out)
+    let text = read_one(run.alloc, trace)?;
+    let decision = decide_text(run.alloc, run.rt, text.as_slice(), run.options, run.gate)?;
+    write_certificate(run.alloc, &decision, cert)?;
+    write_report(run.alloc, &decision, out)
 }
 
 /// Gives what is decided of the trace that the text spells.

@@ -4,7 +4,7 @@
 ghost use Rattle.command_run.specs.ExitStatus.{IsExitStatus};
 
 use command_host::{Recalls, Recorder};
-use command_run::{ArgumentFault, refuse, run, words_of};
+use command_run::{ArgumentFault, ProgramRun, refuse, run, words_of};
 use dimacs::Sink;
 use std::env;
 use std::io::{ErrorKind, IsTerminal};
@@ -39,16 +39,13 @@ fn run_on_system<'x, R: Threads + Wait + Sync, O: Sink + Recalls, E: Sink>(
 {
     let mut host = SystemHost::new(rt);
     let progress = Progress::new(rt);
-    run(
-        rt.alloc(),
-        threads,
-        &progress,
-        &mut host,
-        words,
+    let program = ProgramRun {
+        alloc: rt.alloc(),
+        rt: threads,
+        progress: &progress,
         is_terminal,
-        out,
-        err,
-    )
+    };
+    run(&program, &mut host, words, out, err)
 }
 
 fn main(rt: HostRuntime) -> ExitCode {

@@ -277,12 +277,10 @@ fn enter_all(ledger: &mut Ledger, results: Vec<Settled>) -> usize
     refused
 }
 
-/// Asserts what a round comes to: which leaves are asked for, that the ledger refuses each answer of another leaf and no other, and the
-/// verdict.
-fn assert_round<R: Threads + Sync + Abort>(
-    rt: &R,
+/// Enters what a round says. Asserts which leaves are asked for, and that the ledger refuses each answer of another leaf and no other.
+fn enter_round(
+    rt: &impl Abort,
     alloc: Global,
-    formula: &Formula,
     tree: &Tree,
     ledger: &mut Ledger,
     round: &Round,
@@ -301,7 +299,6 @@ fn assert_round<R: Threads + Sync + Abort>(
         round.asked.len()
     };
     expect(rt, refused == wanted, number);
-    assert_confirmed(rt, alloc, ledger, formula, round.expected, number);
 }
 
 /// The tree and its ledger with this leaf split.
@@ -367,12 +364,18 @@ fn open_leaves(expected: Expected) -> &'static [u32] {
     }
 }
 
-/// Asserts what two rounds come to, the second one with the open leaves of the first split on the variable.
+/// A formula, and the text of the tree of its cubes in the first round.
+#[derive(Clone, Copy)]
+struct SplitFormula<'a> {
+    formula: &'a Formula,
+    tree: &'a [u8],
+}
+
+/// Asserts which verdicts follow from two rounds, the second one with the open leaves of the first split on the variable.
 fn assert_rounds<R: Threads + Sync + Abort>(
     rt: &R,
     alloc: Global,
-    formula: &Formula,
-    split: &[u8],
+    split: SplitFormula<'_>,
     variable: u32,
     told: &FalseSearchCase,
     number: usize,
@@ -380,13 +383,16 @@ fn assert_rounds<R: Threads + Sync + Abort>(
     requires { (1 ≤ variable) × (variable ≤ MAX_VARIABLE) }
 {
     let (first, second) = told;
-    let tree = tree_of(rt, alloc, split);
+    let SplitFormula { formula, tree } = split;
+    let tree = tree_of(rt, alloc, tree);
     let mut ledger = new_ledger(rt, alloc, &tree);
-    assert_round(rt, alloc, formula, &tree, &mut ledger, first, number);
+    enter_round(rt, alloc, &tree, &mut ledger, first, number);
+    assert_confirmed(rt, alloc, &ledger, formula, first.expected, number);
     let leaves = open_leaves(first.expected);
     let (tree, ledger) = split_all(rt, alloc, tree, ledger, leaves, variable);
     let mut ledger = ledger;
-    assert_round(rt, alloc, formula, &tree, &mut ledger, second, number);
+    enter_round(rt, alloc, &tree, &mut ledger, second, number);
+    assert_confirmed(rt, alloc, &ledger, formula, second.expected, number);
 }
 
 #[test]
@@ -394,29 +400,21 @@ fn no_false_search_makes_a_false_verdict(rt: HostRuntime) {
     let alloc = rt.alloc();
     let mut number = 0usize;
     let formula = formula_of(&rt, alloc, STORE_BUFFERING);
+    let split = SplitFormula {
+        formula: &formula,
+        tree: b"split 3\nleaf\nleaf\n",
+    };
     for told in &OF_STORE_BUFFERING {
-        assert_rounds(
-            &rt,
-            alloc,
-            &formula,
-            b"split 3\nleaf\nleaf\n",
-            4,
-            told,
-            number,
-        );
+        assert_rounds(&rt, alloc, split, 4, told, number);
         number = number.wrapping_add(1);
     }
     let formula = formula_of(&rt, alloc, WRITTEN_AGAIN);
+    let split = SplitFormula {
+        formula: &formula,
+        tree: b"split 1\nleaf\nleaf\n",
+    };
     for told in &OF_WRITTEN_AGAIN {
-        assert_rounds(
-            &rt,
-            alloc,
-            &formula,
-            b"split 1\nleaf\nleaf\n",
-            2,
-            told,
-            number,
-        );
+        assert_rounds(&rt, alloc, split, 2, told, number);
         number = number.wrapping_add(1);
     }
 }

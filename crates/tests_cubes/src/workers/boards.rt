@@ -32,22 +32,29 @@ fn open_for_two(
     Ok((board, dealer, first, second, collector))
 }
 
+/// The seats of two workers, in the order of their numbers.
+#[derive(Drop)]
+struct WorkerPair {
+    first: WorkerSeat,
+    second: WorkerSeat,
+}
+
 /// The account of the board with these two workers.
 fn close_for_two<R: Wait>(
     alloc: Global,
     rt: &R,
     board: Board,
     dealer: DealerSeat,
-    first: WorkerSeat,
-    second: WorkerSeat,
+    pair: WorkerPair,
     collector: CollectorSeat,
 ) -> Result<Account, Fail>
     requires board { board.workers ≡ 2 }
     requires dealer { IsDealerAt board dealer }
-    requires first { IsWorkerAt board first × (first.number ≡ 0) }
-    requires second { IsWorkerAt board second × (second.number ≡ 1) }
+    requires first { IsWorkerAt board pair.first × (pair.first.number ≡ 0) }
+    requires second { IsWorkerAt board pair.second × (pair.second.number ≡ 1) }
     requires collector { IsCollectorAt board collector }
 {
+    let WorkerPair { first, second } = pair;
     let mut workers = Vec::with_capacity(alloc, 2)?;
     workers.push(first)?;
     workers.push(second)?;
@@ -161,7 +168,8 @@ fn settles_each_job_once(rt: HostRuntime) -> Result<(), Fail> {
     assert_ends(alloc, &rt, &board, &mut second);
     assert_gathers(&rt, &board, &mut collector, 1);
     assert_gathers(&rt, &board, &mut collector, 0);
-    let account = close_for_two(alloc, &rt, board, dealer, first, second, collector)?;
+    let pair = WorkerPair { first, second };
+    let account = close_for_two(alloc, &rt, board, dealer, pair, collector)?;
     assert_counts(&rt, &account, [2, 2, 2, 2]);
     Ok(())
 }
@@ -187,7 +195,8 @@ fn counts_what_is_left(rt: HostRuntime) -> Result<(), Fail> {
         &mut first,
         Job::new(alloc, 0, &[]).settle(Outcome::Open),
     );
-    let account = close_for_two(alloc, &rt, board, dealer, first, second, collector)?;
+    let pair = WorkerPair { first, second };
+    let account = close_for_two(alloc, &rt, board, dealer, pair, collector)?;
     assert_counts(&rt, &account, [2, 1, 1, 0]);
     Ok(())
 }
@@ -222,7 +231,8 @@ fn settles_jobs_in_two_threads(rt: HostRuntime) -> Result<(), Fail> {
         move || work(alloc, handle, shared, first),
         move || work(alloc, handle, shared, second),
     );
-    let account = close_for_two(alloc, &rt, board, dealer, first, second, collector)?;
+    let pair = WorkerPair { first, second };
+    let account = close_for_two(alloc, &rt, board, dealer, pair, collector)?;
     assert_counts(&rt, &account, [2, 2, 2, 0]);
     Ok(())
 }

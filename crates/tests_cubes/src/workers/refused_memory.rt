@@ -5,7 +5,7 @@ use crate::expectations::{ample, expect};
 use crate::workers::seats::{FOUR_LEAVES, ONE_CLAUSE};
 use crate::workers::talkers::{TalkEnd, talkers};
 use cnf_text::read_cnf;
-use cube_jobs::{OpenGate, Options};
+use cube_jobs::{OpenGate, Options, SearchRun};
 use cube_tree::{Tree, read_tree};
 use dimacs::Formula;
 use proof_log::Answer;
@@ -62,9 +62,13 @@ fn found_once<R: Threads + Wait + Abort + Sync>(
 ) -> Result<Option<Answer>, AllocError> {
     let options = ample(rt, Options::new(1, 3, BUDGET, 1));
     let searches = talkers(alloc, &ONE_LIES)?;
-    match search_by_seats(
-        alloc, rt, formula, tree, searches, BUDGET, &options, &OpenGate,
-    ) {
+    let run = SearchRun {
+        alloc,
+        rt,
+        options: &options,
+        gate: &OpenGate,
+    };
+    match search_by_seats(&run, formula, tree, searches, BUDGET) {
         Ok(answer) => Ok(Some(answer)),
         Err(fault) => {
             expect(rt, matches!(fault, PlainFault::OutOfMemory), 0);

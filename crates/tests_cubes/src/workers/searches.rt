@@ -31,31 +31,41 @@ const TWO_LEAVES: &[u8] = b"split 1\nleaf\nleaf\n";
 /// The number of looks that a held worker takes before it gives up.
 const MAX_LOOKS: u32 = 1_000_000;
 
+/// Tickets in a row, from the first to the last.
+#[derive(Clone, Copy)]
+struct TicketRange {
+    first: u32,
+    last: u32,
+}
+
+impl TicketRange {
+    /// Returns whether this ticket is one of them.
+    fn has(self, ticket: u32) -> bool {
+        self.first <= ticket && ticket <= self.last
+    }
+}
+
+/// No ticket of eight leaves.
+const NO_TICKET: TicketRange = TicketRange { first: 8, last: 8 };
+
 /// A gate that holds some cubes before they are searched until another one is settled.
 #[derive(Drop)]
 struct SearchGate {
-    first: u32,
-    last: u32,
+    held: TicketRange,
     awaited: u32,
     is_settled: AtomicBool,
     gave_up: AtomicBool,
 }
 
 impl SearchGate {
-    /// A gate that holds the cubes of these tickets, from the first to the last, until that of the awaited one is settled.
-    fn new(first: u32, last: u32, awaited: u32) -> SearchGate {
+    /// A gate that holds the cubes of these tickets until that of the awaited one is settled.
+    fn new(held: TicketRange, awaited: u32) -> SearchGate {
         SearchGate {
-            first,
-            last,
+            held,
             awaited,
             is_settled: AtomicBool::new(false),
             gave_up: AtomicBool::new(false),
         }
-    }
-
-    /// Returns whether it holds the cube of this ticket.
-    fn holds(&self, ticket: u32) -> bool {
-        self.first <= ticket && ticket <= self.last
     }
 
     /// Waits until the awaited cube is settled, but not for ever.
@@ -72,7 +82,7 @@ impl SearchGate {
 
 impl Gate for SearchGate {
     fn before(&self, _worker: u32, ticket: u32) {
-        if self.holds(ticket) {
+        if self.held.has(ticket) {
             self.hold();
         }
     }
@@ -187,11 +197,10 @@ fn may_be_of_written_again(settled: &Settled) -> bool {
     }
 }
 
-/// Returns whether the results are those of the eight leaves for `WRITTEN_AGAIN`, and those of these tickets, from the first to the last,
-/// were skipped.
-fn are_of_written_again(results: &[Settled], first: u32, last: u32) -> bool {
+/// Returns whether the results are those of the eight leaves for `WRITTEN_AGAIN`, and those of these tickets were skipped.
+fn are_of_written_again(results: &[Settled], skipped: TicketRange) -> bool {
     for settled in results {
-        let is_past = first <= settled.ticket() && settled.ticket() <= last;
+        let is_past = skipped.has(settled.ticket());
         let is_skipped = matches!(settled.outcome(), Outcome::Skipped);
         if !may_be_of_written_again(settled) || (is_past && !is_skipped) {
             return false;
@@ -262,19 +271,22 @@ fn assert_finds_leaf_2<R: Threads + Wait + Abort + Sync, G: Gate + Sync>(
     tree: &Tree,
     workers: u32,
     gate: &G,
-    first: u32,
-    last: u32,
+    skipped: TicketRange,
 ) {
     let formula = formula_of(rt, alloc, WRITTEN_AGAIN);
     let results = results_of(alloc, rt, &formula, tree, workers, gate);
-    let are_right = are_of_written_again(results.as_slice(), first, last);
+    let are_right = are_of_written_again(results.as_slice(), skipped);
     assert!(rt; are_right, "{workers} workers");
     let verdict = verdict_of(alloc, rt, &formula, tree, results);
     assert!(rt; is_model_of(&verdict, 2), "{workers} workers");
 }
 
-/// The number of workers, the last of the cubes that are held from the first one on, and the cube that is awaited.
-const HELD: [(u32, u32, u32); 3] = [(2, 0, 7), (8, 0, 7), (8, 6, 7)];
+/// The number of workers, the cubes that are held, and the cube that is awaited.
+const HELD: [(u32, TicketRange, u32); 3] = [
+    (2, TicketRange { first: 0, last: 0 }, 7),
+    (8, TicketRange { first: 0, last: 0 }, 7),
+    (8, TicketRange { first: 0, last: 6 }, 7),
+];
 
 // Jobs are taken in the order of their tickets. So one of two workers settles seven cubes while the other one is held. With seven of
 // eight workers held, each at a cube of its own, the awaited cube is left for the eighth: with fewer threads than that it would never
@@ -283,15 +295,20 @@ const HELD: [(u32, u32, u32); 3] = [(2, 0, 7), (8, 0, 7), (8, 6, 7)];
 fn another_worker_goes_on_where_one_is_held(rt: HostRuntime) {
     let alloc = rt.alloc();
     let tree = tree_of(&rt, alloc, EIGHT_LEAVES);
-    for (workers, last, awaited) in &HELD {
-        let gate = SearchGate::new(0, *last, *awaited);
+    for (workers, held, awaited) in &HELD {
+        let gate = SearchGate::new(*held, *awaited);
         assert_refutes_all(alloc, &rt, &tree, *workers, &gate);
         assert!(&rt; !gate.gave_up.load(Ordering::SeqCst), "{workers} workers");
     }
 }
 
-/// The number of workers, and the first and the last of the cubes that are held until leaf 2 is settled.
-const HELD_ABOVE: [(u32, u32, u32); 4] = [(2, 5, 5), (8, 5, 5), (2, 3, 7), (8, 3, 7)];
+/// The number of workers, and the cubes that are held until leaf 2 is settled.
+const HELD_ABOVE: [(u32, TicketRange); 4] = [
+    (2, TicketRange { first: 5, last: 5 }),
+    (8, TicketRange { first: 5, last: 5 }),
+    (2, TicketRange { first: 3, last: 7 }),
+    (8, TicketRange { first: 3, last: 7 }),
+];
 
 // A worker that finds a model marks its ticket before it gives the result, and a worker looks at the mark after it was held. So what was
 // held until leaf 2 is settled has to be skipped: the cube with the other model too, and all that lie above.
@@ -299,21 +316,21 @@ const HELD_ABOVE: [(u32, u32, u32); 4] = [(2, 5, 5), (8, 5, 5), (2, 3, 7), (8, 3
 fn skips_what_lies_above_a_model(rt: HostRuntime) {
     let alloc = rt.alloc();
     let tree = tree_of(&rt, alloc, EIGHT_LEAVES);
-    for (workers, first, last) in &HELD_ABOVE {
-        let gate = SearchGate::new(*first, *last, 2);
-        assert_finds_leaf_2(alloc, &rt, &tree, *workers, &gate, *first, *last);
+    for (workers, held) in &HELD_ABOVE {
+        let gate = SearchGate::new(*held, 2);
+        assert_finds_leaf_2(alloc, &rt, &tree, *workers, &gate, *held);
         assert!(&rt; !gate.gave_up.load(Ordering::SeqCst), "{workers} workers");
     }
 }
 
-// Two hundred of each formula. If no worker is held, no ticket has to be skipped: 8 is none.
+// Two hundred of each formula. If no worker is held, no ticket has to be skipped.
 #[test]
 fn two_hundred_searches_lose_nothing(rt: HostRuntime) {
     let alloc = rt.alloc();
     let tree = tree_of(&rt, alloc, EIGHT_LEAVES);
     for _search in 0..200 {
         assert_refutes_all(alloc, &rt, &tree, 8, &OpenGate);
-        assert_finds_leaf_2(alloc, &rt, &tree, 8, &OpenGate, 8, 8);
+        assert_finds_leaf_2(alloc, &rt, &tree, 8, &OpenGate, NO_TICKET);
     }
 }
 
@@ -324,7 +341,7 @@ fn skips_the_second_of_two_leaves_after_a_model_in_the_first(rt: HostRuntime) {
     let alloc = rt.alloc();
     let tree = tree_of(&rt, alloc, TWO_LEAVES);
     let formula = formula_of(&rt, alloc, WRITTEN_AGAIN);
-    let gate = SearchGate::new(1, 1, 0);
+    let gate = SearchGate::new(TicketRange { first: 1, last: 1 }, 0);
     let results = results_of(alloc, &rt, &formula, &tree, 2, &gate);
     assert!(&rt; !gate.gave_up.load(Ordering::SeqCst));
     assert!(&rt; is_second_skipped(results.as_slice()));

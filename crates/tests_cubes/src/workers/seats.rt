@@ -2,7 +2,7 @@
 
 use crate::workers::searches::{formula_of, tree_of};
 use crate::workers::talkers::{TalkEnd, talkers};
-use cube_jobs::{OpenGate, Options};
+use cube_jobs::{OpenGate, Options, SearchRun};
 use dimacs::Formula;
 use lrat_check::checker::check;
 use lrat_check::derivation::Derivation;
@@ -62,9 +62,13 @@ fn answer_by<R: Threads + Wait + Abort + Sync>(
     let Ok(searches) = talkers(alloc, ends) else {
         panic!(rt; "out of memory")
     };
-    match search_by_seats(
-        alloc, rt, formula, &tree, searches, BUDGET, &options, &OpenGate,
-    ) {
+    let run = SearchRun {
+        alloc,
+        rt,
+        options: &options,
+        gate: &OpenGate,
+    };
+    match search_by_seats(&run, formula, &tree, searches, BUDGET) {
         Ok(answer) => answer,
         Err(_) => panic!(rt; "there is no memory, or no thread"),
     }

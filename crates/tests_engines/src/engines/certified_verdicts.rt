@@ -10,7 +10,7 @@ use std::alloc::Global;
 use std::process::Abort;
 use std::sync::Wait;
 use std::thread::Threads;
-use verdict_report::{Fault, ShortSource, Status, run_certified_verify};
+use verdict_report::{Fault, ShortSource, Status, VerifyRun, run_certified_verify};
 
 /// How many verdicts have a certificate: they are the first ones.
 const CERTIFIED: usize = 2;
@@ -34,9 +34,13 @@ fn whole_certificate<R: Threads + Wait + Abort + Sync>(
     let mut trace = source_of(verdict.trace);
     let mut cert = MemorySink::new(alloc);
     let mut out = MemorySink::new(alloc);
-    let outcome = run_certified_verify(
-        alloc, rt, &mut trace, &options, &OpenGate, &mut cert, &mut out,
-    );
+    let run = VerifyRun {
+        alloc,
+        rt,
+        options: &options,
+        gate: &OpenGate,
+    };
+    let outcome = run_certified_verify(&run, &mut trace, &mut cert, &mut out);
     expect(rt, outcome == Ok(Status::No), 0);
     expect(rt, out.as_slice() == verdict.report, 0);
     cert
@@ -44,10 +48,36 @@ fn whole_certificate<R: Threads + Wait + Abort + Sync>(
 
 /// The devices of a run.
 #[derive(Drop)]
-struct Devices<'a> {
-    trace: ShortSource<'a>,
+struct Devices {
+    trace: ShortSource<'static>,
     cert: ShortSink,
     out: ShortSink,
+}
+
+/// Returns devices for the trace that move a byte a call, and do not fail.
+fn devices_of(alloc: Global, verdict: &DecidedTrace) -> Devices {
+    Devices {
+        trace: source_of(verdict.trace),
+        cert: ShortSink::new(alloc, 1),
+        out: ShortSink::new(alloc, 1),
+    }
+}
+
+/// The answer that is wanted of a run that certifies, and what the sinks of the certificate and of the report have to take.
+#[derive(Clone, Copy)]
+struct WantedCertifiedRun<'a> {
+    answer: Result<Status, Fault>,
+    certificate: &'a [u8],
+    report: &'a [u8],
+}
+
+/// A run that ends as a device fails, after its sinks have taken these bytes.
+fn cut_off<'a>(certificate: &'a [u8], report: &'a [u8]) -> WantedCertifiedRun<'a> {
+    WantedCertifiedRun {
+        answer: Err(Fault::Device),
+        certificate,
+        report,
+    }
 }
 
 /// Asserts what the engine that certifies answers over these devices, and what each of the sinks takes.
@@ -55,10 +85,8 @@ fn assert_certifies<R: Threads + Wait + Abort + Sync>(
     alloc: Global,
     rt: &R,
     verdict: &DecidedTrace,
-    devices: Devices<'_>,
-    answer: Result<Status, Fault>,
-    certificate: &[u8],
-    report: &[u8],
+    devices: Devices,
+    wanted: WantedCertifiedRun<'_>,
     number: usize,
 ) {
     let options = options_of(rt, verdict);
@@ -67,12 +95,16 @@ fn assert_certifies<R: Threads + Wait + Abort + Sync>(
         mut cert,
         mut out,
     } = devices;
-    let outcome = run_certified_verify(
-        alloc, rt, &mut trace, &options, &OpenGate, &mut cert, &mut out,
-    );
-    expect(rt, outcome == answer, number);
-    expect(rt, cert.as_slice() == certificate, number);
-    expect(rt, out.as_slice() == report, number);
+    let run = VerifyRun {
+        alloc,
+        rt,
+        options: &options,
+        gate: &OpenGate,
+    };
+    let outcome = run_certified_verify(&run, &mut trace, &mut cert, &mut out);
+    expect(rt, outcome == wanted.answer, number);
+    expect(rt, cert.as_slice() == wanted.certificate, number);
+    expect(rt, out.as_slice() == wanted.report, number);
 }
 
 #[test]
@@ -98,13 +130,10 @@ fn assert_certifies_none<R: Threads + Wait + Abort + Sync>(
     verdict: &DecidedTrace,
     call: usize,
 ) {
-    let devices = Devices {
-        trace: failing_at(verdict.trace, call),
-        cert: ShortSink::new(alloc, 1),
-        out: ShortSink::new(alloc, 1),
-    };
-    let answer = Err(Fault::Device);
-    assert_certifies(alloc, rt, verdict, devices, answer, b"", b"", call);
+    let mut devices = devices_of(alloc, verdict);
+    devices.trace = failing_at(verdict.trace, call);
+    let wanted = cut_off(b"", b"");
+    assert_certifies(alloc, rt, verdict, devices, wanted, call);
 }
 
 #[test]
@@ -121,26 +150,12 @@ fn assert_certificate<R: Threads + Wait + Abort + Sync>(
     alloc: Global,
     rt: &R,
     verdict: &DecidedTrace,
+    wanted: WantedCertifiedRun<'_>,
     call: usize,
-    answer: Result<Status, Fault>,
-    certificate: &[u8],
-    report: &[u8],
 ) {
-    let devices = Devices {
-        trace: source_of(verdict.trace),
-        cert: sink_failing_at(alloc, call),
-        out: ShortSink::new(alloc, 1),
-    };
-    assert_certifies(
-        alloc,
-        rt,
-        verdict,
-        devices,
-        answer,
-        certificate,
-        report,
-        call,
-    );
+    let mut devices = devices_of(alloc, verdict);
+    devices.cert = sink_failing_at(alloc, call);
+    assert_certifies(alloc, rt, verdict, devices, wanted, call);
 }
 
 #[test]
@@ -149,9 +164,8 @@ fn writes_no_report_if_the_sink_of_the_certificate_fails(rt: HostRuntime) {
         let sink = whole_certificate(rt.alloc(), &rt, verdict);
         let whole = sink.as_slice();
         for count in 0..whole.len() {
-            let answer = Err(Fault::Device);
-            let prefix = &whole[..count];
-            assert_certificate(rt.alloc(), &rt, verdict, count + 1, answer, prefix, b"");
+            let wanted = cut_off(&whole[..count], b"");
+            assert_certificate(rt.alloc(), &rt, verdict, wanted, count + 1);
         }
     }
 }
@@ -159,36 +173,26 @@ fn writes_no_report_if_the_sink_of_the_certificate_fails(rt: HostRuntime) {
 #[test]
 fn asks_nothing_of_the_sink_of_the_certificate_for_another_report(rt: HostRuntime) {
     for verdict in &DECIDED_TRACES[CERTIFIED..] {
-        let answer = Ok(verdict.status);
-        assert_certificate(rt.alloc(), &rt, verdict, 1, answer, b"", verdict.report);
+        let wanted = WantedCertifiedRun {
+            answer: Ok(verdict.status),
+            certificate: b"",
+            report: verdict.report,
+        };
+        assert_certificate(rt.alloc(), &rt, verdict, wanted, 1);
     }
 }
 
-/// Asserts that the whole certificate and this prefix of the report are taken, if the report's sink fails at the call after it.
+/// Asserts what is taken if the report's sink fails at the call after what is wanted of it.
 fn assert_report<R: Threads + Wait + Abort + Sync>(
     alloc: Global,
     rt: &R,
     verdict: &DecidedTrace,
-    certificate: &[u8],
-    prefix: &[u8],
-    answer: Result<Status, Fault>,
+    wanted: WantedCertifiedRun<'_>,
 ) {
-    let call = prefix.len().wrapping_add(1);
-    let devices = Devices {
-        trace: source_of(verdict.trace),
-        cert: ShortSink::new(alloc, 1),
-        out: sink_failing_at(alloc, call),
-    };
-    assert_certifies(
-        alloc,
-        rt,
-        verdict,
-        devices,
-        answer,
-        certificate,
-        prefix,
-        call,
-    );
+    let call = wanted.report.len().wrapping_add(1);
+    let mut devices = devices_of(alloc, verdict);
+    devices.out = sink_failing_at(alloc, call);
+    assert_certifies(alloc, rt, verdict, devices, wanted, call);
 }
 
 #[test]
@@ -198,9 +202,14 @@ fn writes_the_whole_certificate_before_the_report(rt: HostRuntime) {
         let whole = sink.as_slice();
         let report = verdict.report;
         for count in 0..report.len() {
-            let answer = Err(Fault::Device);
-            assert_report(rt.alloc(), &rt, verdict, whole, &report[..count], answer);
+            let wanted = cut_off(whole, &report[..count]);
+            assert_report(rt.alloc(), &rt, verdict, wanted);
         }
-        assert_report(rt.alloc(), &rt, verdict, whole, report, Ok(verdict.status));
+        let wanted = WantedCertifiedRun {
+            answer: Ok(verdict.status),
+            certificate: whole,
+            report,
+        };
+        assert_report(rt.alloc(), &rt, verdict, wanted);
     }
 }

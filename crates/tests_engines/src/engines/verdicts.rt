@@ -1,7 +1,8 @@
 //! Verdicts of traces, over a source and a sink that move a byte a call and fail at one of their calls.
 
-use crate::expectations::{ample, expect};
-use crate::short_devices::{SIZES, failing_at, sink_failing_at, source_of};
+use crate::engines::wanted_runs::{WantedRun, assert_run, cut_off};
+use crate::expectations::ample;
+use crate::short_devices::{SIZES, failing_at, sink_failing_at};
 use crate::traces::{HAND_OFF, STORE_BUFFERING, UNWRITTEN};
 use cube_jobs::{OpenGate, Options};
 use dimacs::ShortSink;
@@ -63,21 +64,34 @@ pub fn options_of(rt: &impl Abort, verdict: &DecidedTrace) -> Options {
     ample(rt, options)
 }
 
+/// The devices of a run.
+#[derive(Drop)]
+struct Devices {
+    trace: ShortSource<'static>,
+    out: ShortSink,
+}
+
+/// Returns devices for the trace that move at most this number of bytes a call, and do not fail.
+fn devices_of(alloc: Global, verdict: &DecidedTrace, size: usize) -> Devices {
+    Devices {
+        trace: ShortSource::new(verdict.trace.as_bytes(), size),
+        out: ShortSink::new(alloc, size),
+    }
+}
+
 /// Asserts what the engine that verifies answers over these devices, and what the sink takes.
 fn assert_verifies<R: Threads + Wait + Abort + Sync>(
     alloc: Global,
     rt: &R,
     verdict: &DecidedTrace,
-    mut trace: ShortSource<'_>,
-    mut out: ShortSink,
-    answer: Result<Status, Fault>,
-    taken: &[u8],
+    devices: Devices,
+    wanted: WantedRun<'_>,
     number: usize,
 ) {
     let options = options_of(rt, verdict);
+    let Devices { mut trace, mut out } = devices;
     let outcome = run_verify(alloc, rt, &mut trace, &options, &OpenGate, &mut out);
-    expect(rt, outcome == answer, number);
-    expect(rt, out.as_slice() == taken, number);
+    assert_run(rt, outcome, out.as_slice(), wanted, number);
 }
 
 /// Asserts that the sink takes this prefix of the report if it fails at the call after it.
@@ -93,28 +107,25 @@ fn assert_prefix<R: Threads + Wait + Abort + Sync>(
     } else {
         Err(Fault::Device)
     };
-    let trace = source_of(verdict.trace);
-    let out = sink_failing_at(alloc, call);
-    assert_verifies(alloc, rt, verdict, trace, out, answer, prefix, call);
+    let mut devices = devices_of(alloc, verdict, 1);
+    devices.out = sink_failing_at(alloc, call);
+    let wanted = WantedRun {
+        answer,
+        taken: prefix,
+    };
+    assert_verifies(alloc, rt, verdict, devices, wanted, call);
 }
 
 #[test]
 fn reports_of_single_bytes_what_it_reports_of_whole_texts(rt: HostRuntime) {
     for verdict in &DECIDED_TRACES {
+        let wanted = WantedRun {
+            answer: Ok(verdict.status),
+            taken: verdict.report,
+        };
         for size in SIZES {
-            let trace = ShortSource::new(verdict.trace.as_bytes(), size);
-            let out = ShortSink::new(rt.alloc(), size);
-            let answer = Ok(verdict.status);
-            assert_verifies(
-                rt.alloc(),
-                &rt,
-                verdict,
-                trace,
-                out,
-                answer,
-                verdict.report,
-                size,
-            );
+            let devices = devices_of(rt.alloc(), verdict, size);
+            assert_verifies(rt.alloc(), &rt, verdict, devices, wanted, size);
         }
     }
 }
@@ -123,10 +134,9 @@ fn reports_of_single_bytes_what_it_reports_of_whole_texts(rt: HostRuntime) {
 fn reports_nothing_if_the_source_fails(rt: HostRuntime) {
     for verdict in &DECIDED_TRACES {
         for call in 1..=verdict.trace.len() + 1 {
-            let trace = failing_at(verdict.trace, call);
-            let out = ShortSink::new(rt.alloc(), 1);
-            let answer = Err(Fault::Device);
-            assert_verifies(rt.alloc(), &rt, verdict, trace, out, answer, b"", call);
+            let mut devices = devices_of(rt.alloc(), verdict, 1);
+            devices.trace = failing_at(verdict.trace, call);
+            assert_verifies(rt.alloc(), &rt, verdict, devices, cut_off(b""), call);
         }
     }
 }

@@ -66,26 +66,32 @@ impl Gate for VerdictGate {
     }
 }
 
-/// Asserts what this number of workers reports of the trace, over a tree of at most this depth, where the cube of one ticket is held until
-/// that of another one is settled.
+/// A search of a trace by this number of workers, over a tree of at most this depth, and what it reports.
+#[derive(Clone, Copy)]
+struct ReportedSearch {
+    trace: &'static str,
+    workers: u32,
+    split: u32,
+    status: Status,
+    report: &'static [u8],
+}
+
+/// Asserts what the search reports if the cube of one ticket is held until that of another one is settled.
 fn assert_reports<R: Threads + Wait + Abort + Sync>(
     alloc: Global,
     rt: &R,
-    trace: &str,
-    workers: u32,
-    split: u32,
+    search: ReportedSearch,
     gate: &VerdictGate,
-    status: Status,
-    report: &[u8],
 ) {
-    let options = ample(rt, Options::new(workers, split, 100, 1));
-    let mut source = ShortSource::new(trace.as_bytes(), 7);
+    let number = search.workers as usize;
+    let options = ample(rt, Options::new(search.workers, search.split, 100, 1));
+    let mut source = ShortSource::new(search.trace.as_bytes(), 7);
     let mut output = MemorySink::new(alloc);
     let outcome = run_verify(alloc, rt, &mut source, &options, gate, &mut output);
-    expect(rt, outcome == Ok(status), workers as usize);
-    expect(rt, output.as_slice() == report, workers as usize);
+    expect(rt, outcome == Ok(search.status), number);
+    expect(rt, output.as_slice() == search.report, number);
     let gave_up = gate.gave_up.load(Ordering::SeqCst);
-    expect(rt, !gave_up, workers as usize);
+    expect(rt, !gave_up, number);
 }
 
 // Jobs are taken in the order of their tickets. With one thread alone, ticket 1 would never be settled while ticket 0 is held.
@@ -93,17 +99,14 @@ fn assert_reports<R: Threads + Wait + Abort + Sync>(
 fn reports_though_the_first_cube_waits_for_the_second(rt: HostRuntime) {
     for workers in [2, 8] {
         let gate = VerdictGate::new(0, 1);
-        let report = b"INCONSISTENT cubes=4\n";
-        assert_reports(
-            rt.alloc(),
-            &rt,
-            STORE_BUFFERING,
+        let search = ReportedSearch {
+            trace: STORE_BUFFERING,
             workers,
-            3,
-            &gate,
-            Status::No,
-            report,
-        );
+            split: 3,
+            status: Status::No,
+            report: b"INCONSISTENT cubes=4\n",
+        };
+        assert_reports(rt.alloc(), &rt, search, &gate);
     }
 }
 
@@ -114,16 +117,13 @@ fn reports_though_the_first_cube_waits_for_the_second(rt: HostRuntime) {
 fn reports_the_schedule_of_the_lowest_cube(rt: HostRuntime) {
     for (held, awaited) in [(1, 0), (0, 1), (2, 2)] {
         let gate = VerdictGate::new(held, awaited);
-        let report = b"CONSISTENT\nP.1\nQ.1\n";
-        assert_reports(
-            rt.alloc(),
-            &rt,
-            WRITTEN_AGAIN,
-            2,
-            1,
-            &gate,
-            Status::Yes,
-            report,
-        );
+        let search = ReportedSearch {
+            trace: WRITTEN_AGAIN,
+            workers: 2,
+            split: 1,
+            status: Status::Yes,
+            report: b"CONSISTENT\nP.1\nQ.1\n",
+        };
+        assert_reports(rt.alloc(), &rt, search, &gate);
     }
 }

@@ -28,39 +28,28 @@ impl FaultCause for Torn {
     }
 }
 
-/// Gives what stands after the first line of the text, which is this one.
-fn behind_line<'a>(rt: &impl Abort, text: &'a [u8], line: &[u8]) -> &'a [u8] {
-    match cut_line(text) {
+/// Gives what stands after the first line or word of a text that was cut behind it. It has to be this one.
+fn behind<'a>(rt: &impl Abort, cut: Option<(&'a [u8], &'a [u8])>, wanted: &[u8]) -> &'a [u8] {
+    match cut {
         Some((first, after)) => {
-            expect(rt, first == line, text.len());
+            expect(rt, first == wanted, wanted.len());
             after
         }
-        None => panic!(rt; "a line is missing"),
+        None => panic!(rt; "a line or a word is missing"),
     }
 }
 
 #[test]
 fn cuts_lines(rt: HostRuntime) {
-    let rest = behind_line(&rt, b"vsc 1\r\n\n \nproc P", b"vsc 1\r");
-    let rest = behind_line(&rt, rest, b"");
-    let rest = behind_line(&rt, rest, b" ");
-    let rest = behind_line(&rt, rest, b"proc P");
+    let rest = behind(&rt, cut_line(b"vsc 1\r\n\n \nproc P"), b"vsc 1\r");
+    let rest = behind(&rt, cut_line(rest), b"");
+    let rest = behind(&rt, cut_line(rest), b" ");
+    let rest = behind(&rt, cut_line(rest), b"proc P");
     assert!(rt; cut_line(rest).is_none());
 }
 
 /// A line of three words.
 const LINE: &[u8] = b"\tW  x\t1\r";
-
-/// Gives what stands after the first word of the line, which is this one.
-fn behind_word<'a>(rt: &impl Abort, line: &'a [u8], word: &[u8]) -> &'a [u8] {
-    match cut_word(line) {
-        Some((first, after)) => {
-            expect(rt, first == word, line.len());
-            after
-        }
-        None => panic!(rt; "a word is missing"),
-    }
-}
 
 /// Asserts that these are the words of the line that are read at once.
 fn assert_first(rt: &impl Abort, line: &[u8], words: &[&[u8]]) {
@@ -70,9 +59,9 @@ fn assert_first(rt: &impl Abort, line: &[u8], words: &[&[u8]]) {
 
 #[test]
 fn cuts_words(rt: HostRuntime) {
-    let rest = behind_word(&rt, LINE, b"W");
-    let rest = behind_word(&rt, rest, b"x");
-    let rest = behind_word(&rt, rest, b"1");
+    let rest = behind(&rt, cut_word(LINE), b"W");
+    let rest = behind(&rt, cut_word(rest), b"x");
+    let rest = behind(&rt, cut_word(rest), b"1");
     assert!(rt; cut_word(rest).is_none());
     assert_first(&rt, b" ", &[]);
     assert_first(&rt, LINE, &[b"W", b"x", b"1"]);

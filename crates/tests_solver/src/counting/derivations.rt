@@ -28,9 +28,10 @@ pub fn accepted(
     let given = Premises {
         steps: Vec::new(alloc),
         clauses: clauses.as_slice(),
+        free,
     };
     let MatchingProblem { reads, known } = said;
-    let written = refute(alloc, given, reads, contradiction, known, free, budget)?;
+    let written = refute(alloc, given, reads, contradiction, known, budget)?;
     let Some(derivation) = written else {
         return Ok(false);
     };

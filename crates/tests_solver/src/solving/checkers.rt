@@ -17,14 +17,26 @@ use solver::{Answer, EncodingHints, solve};
 use std::alloc::{AllocError, Global};
 use std::process::Abort;
 
+/// A formula, and the literals of a cube.
+#[derive(Clone, Copy)]
+struct FormulaInCube<'a> {
+    formula: &'a Formula,
+    cube: &'a [Lit],
+}
+
+/// The formula in this cube.
+fn in_cube<'a>(formula: &'a Formula, cube: &'a [Lit]) -> FormulaInCube<'a> {
+    FormulaInCube { formula, cube }
+}
+
 /// Asserts that both checkers accept the derivation, or refuse it for the same cause at the same step. Why they refuse it, if they do.
 fn same_answer(
     rt: &impl Abort,
     alloc: Global,
-    formula: &Formula,
-    cube: &[Lit],
+    problem: FormulaInCube<'_>,
     derivation: &Derivation,
 ) -> Option<Refusal> {
+    let FormulaInCube { formula, cube } = problem;
     let plain = plain_check(alloc, formula, cube, derivation).err();
     let real = check(alloc, formula, cube, derivation).err();
     expect(rt, plain == real, derivation.steps().len());
@@ -36,15 +48,14 @@ fn assert_same_damaged(
     rt: &impl Abort,
     alloc: Global,
     random: &mut Random,
-    formula: &Formula,
-    cube: &[Lit],
+    problem: FormulaInCube<'_>,
     derivation: &Derivation,
     count: u32,
 ) -> u32 {
     let mut accepted: u32 = 0;
     for _ in 0..count {
         let other = ample(rt, damaged(alloc, random, derivation));
-        let answer = same_answer(rt, alloc, formula, cube, &other);
+        let answer = same_answer(rt, alloc, problem, &other);
         accepted = accepted.wrapping_add(u32::from(answer.is_none()));
     }
     accepted
@@ -56,10 +67,10 @@ fn assert_same_solved(
     rt: &impl Abort,
     alloc: Global,
     random: &mut Random,
-    formula: &Formula,
-    cube: &[Lit],
+    problem: FormulaInCube<'_>,
     count: u32,
 ) -> u32 {
+    let FormulaInCube { formula, cube } = problem;
     let answer = ample(
         rt,
         solve(alloc, formula, cube, EncodingHints::none(), 100_000),
@@ -67,9 +78,9 @@ fn assert_same_solved(
     let Answer::Refuted(derivation) = answer else {
         return 0;
     };
-    let refused = same_answer(rt, alloc, formula, cube, &derivation);
+    let refused = same_answer(rt, alloc, problem, &derivation);
     expect(rt, refused.is_none(), 0);
-    assert_same_damaged(rt, alloc, random, formula, cube, &derivation, count)
+    assert_same_damaged(rt, alloc, random, problem, &derivation, count)
 }
 
 #[test]
@@ -80,13 +91,14 @@ fn checkers_agree(rt: HostRuntime) {
         let formula = ample(&rt, random_formula(alloc, &mut random));
         let numbers = [random.literal(1, 8), random.literal(1, 8)];
         let cube = ample(&rt, literals_of(alloc, &numbers));
-        assert_same_solved(&rt, alloc, &mut random, &formula, &[], 10);
-        assert_same_solved(&rt, alloc, &mut random, &formula, cube.as_slice(), 10);
+        assert_same_solved(&rt, alloc, &mut random, in_cube(&formula, &[]), 10);
+        let problem = in_cube(&formula, cube.as_slice());
+        assert_same_solved(&rt, alloc, &mut random, problem, 10);
     }
     let pigeons = ample(&rt, listed(alloc, 12, &PIGEONHOLE));
     let buffers = ample(&rt, listed(alloc, 8, &STORE_BUFFERING));
     for formula in [&pigeons, &buffers] {
-        let accepted = assert_same_solved(&rt, alloc, &mut random, formula, &[], 400);
+        let accepted = assert_same_solved(&rt, alloc, &mut random, in_cube(formula, &[]), 400);
         assert!(rt; accepted > 0 && accepted < 400);
     }
 }
@@ -118,14 +130,14 @@ fn assert_known(
     let (text, numbers, known) = *family;
     let formula = ample(rt, read_cnf(alloc, text.as_bytes()));
     let cube = ample(rt, literals_of(alloc, numbers));
-    let cube = cube.as_slice();
+    let problem = in_cube(&formula, cube.as_slice());
     let mut accepted: u32 = 0;
     for number in 0..known.len() {
         let (pieces, refused) = known[number];
         let derivation = derivation_of(rt, alloc, pieces);
-        let answer = same_answer(rt, alloc, &formula, cube, &derivation);
+        let answer = same_answer(rt, alloc, problem, &derivation);
         expect(rt, answer == refused, number);
-        let more = assert_same_damaged(rt, alloc, random, &formula, cube, &derivation, count);
+        let more = assert_same_damaged(rt, alloc, random, problem, &derivation, count);
         accepted = accepted.wrapping_add(more);
     }
     accepted

@@ -13,11 +13,8 @@ fn random_order(alloc: Global, random: &mut Random) -> Result<(Formula, u32), Al
     let mut clauses: Vec<Clause> = Vec::new(alloc);
     let mut first: u32 = 1;
     for _ in 0..random.next() % 3 {
-        add(
-            alloc,
-            &mut clauses,
-            &[random.literal(1, 6), random.literal(1, 10)],
-        )?;
+        let numbers = [random.literal(1, 6), random.literal(1, 10)];
+        add(alloc, &mut clauses, &numbers)?;
         first = first.wrapping_add(1);
     }
     for numbers in &STORE_BUFFERING[2..10] {
@@ -32,11 +29,8 @@ fn random_order(alloc: Global, random: &mut Random) -> Result<(Formula, u32), Al
         add(alloc, &mut clauses, &numbers)?;
     }
     for _ in 0..random.next() % 8 {
-        add(
-            alloc,
-            &mut clauses,
-            &[random.literal(1, 6), random.literal(7, 4)],
-        )?;
+        let numbers = [random.literal(1, 6), random.literal(7, 4)];
+        add(alloc, &mut clauses, &numbers)?;
     }
     Ok((formula_of(alloc, 10, clauses), first))
 }
@@ -47,21 +41,10 @@ fn solves_orders_with_and_without_a_guide(rt: HostRuntime) {
     let mut random = Random::new(3);
     for _ in 0..200 {
         let (formula, first) = ample(&rt, random_order(alloc, &mut random));
+        let with_order = EncodingHints::with_order(4, first);
         assert_solved(&rt, alloc, &formula, &[], EncodingHints::none());
-        assert_solved(
-            &rt,
-            alloc,
-            &formula,
-            &[],
-            EncodingHints::with_order(4, first),
-        );
+        assert_solved(&rt, alloc, &formula, &[], with_order);
         let cube = [random.literal(1, 6), random.literal(1, 6)];
-        assert_solved(
-            &rt,
-            alloc,
-            &formula,
-            &cube,
-            EncodingHints::with_order(4, first),
-        );
+        assert_solved(&rt, alloc, &formula, &cube, with_order);
     }
 }

@@ -85,17 +85,23 @@ fn follow(
     Ok(false)
 }
 
-/// Takes the group of the clause of this id, whose hints stand at the front of these, where these literals are reached.
+/// A group of hints: the id of its clause, and the hints behind that. Those of the group stand at the front of these.
+#[derive(Clone, Copy)]
+struct HintGroup<'a> {
+    id: u64,
+    hints: &'a [i64],
+}
+
+/// Takes the group, where these literals are reached.
 fn settle(
     alloc: Global,
     clauses: &[NumberedClause],
     pivot: i32,
     reached: &[i32],
-    id: u64,
-    hints: &[i64],
+    group: HintGroup<'_>,
     number: usize,
 ) -> Result<(), Refusal> {
-    let Some(clause) = find(clauses, id) else {
+    let Some(clause) = find(clauses, group.id) else {
         return Err(Refusal::At(StepFault::UnknownHint, number));
     };
     if !has(clause, negation(pivot)) {
@@ -113,7 +119,7 @@ fn settle(
             trues.push(negation(*literal))?;
         }
     }
-    if follow(clauses, &mut trues, hints, number)? {
+    if follow(clauses, &mut trues, group.hints, number)? {
         return Ok(());
     }
     Err(Refusal::At(StepFault::NoConflict, number))
@@ -160,9 +166,11 @@ fn settle_all(
             if pivot == 0 {
                 return Err(Refusal::At(StepFault::NoPivot, number));
             }
-            let id = hint.unsigned_abs();
-            let own = &hints[place + 1..];
-            settle(alloc, clauses, pivot, reached, id, own, number)?;
+            let group = HintGroup {
+                id: hint.unsigned_abs(),
+                hints: &hints[place + 1..],
+            };
+            settle(alloc, clauses, pivot, reached, group, number)?;
         }
     }
     if pivot == 0 || groups == 0 && lacks_group(clauses, pivot, hints) {

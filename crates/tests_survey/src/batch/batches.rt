@@ -12,6 +12,16 @@ use survey::BySaturation;
 use trace_text::trace_fault::TraceCause;
 use verdict_report::{Fault, ShortSource, Status};
 
+/// A search of a batch by this number of workers.
+pub fn search_by(rt: &impl Abort, workers: u32) -> BatchSearch {
+    let options = ample(rt, Options::new(1, 3, 100_000, 1));
+    BatchSearch {
+        workers,
+        short: options,
+        long: options,
+    }
+}
+
 /// What was counted in a batch of what the source hands out.
 fn batch_of<R: Threads + Wait + Abort + Sync, W: Sink>(
     alloc: Global,
@@ -21,14 +31,8 @@ fn batch_of<R: Threads + Wait + Abort + Sync, W: Sink>(
     workers: u32,
     out: &mut W,
 ) -> Result<VerdictTally, SinkFault> {
-    let short = ample(rt, Options::new(1, 3, 100_000, 1));
-    let long = ample(rt, Options::new(1, 3, 100_000, 1));
+    let search = search_by(rt, workers);
     let surveyor = BySaturation { budget: 1_000_000 };
-    let search = BatchSearch {
-        workers,
-        short,
-        long,
-    };
     let run = BatchRun {
         alloc,
         rt,
@@ -56,14 +60,28 @@ pub const THREE: &[u8] =
 const LINES: &[u8] =
     b"t:1 CONSISTENT\nt:2 INCONSISTENT cubes=4\nt:3 refused: trace 3 Header at 15\n";
 
+/// How a batch has to end, and the lines that it has to write.
+#[derive(Clone, Copy)]
+struct WantedBatch {
+    outcome: Result<Status, Fault>,
+    lines: &'static [u8],
+}
+
+/// A batch with a text that is refused for this fault, and these lines.
+fn refused(fault: Fault, lines: &'static [u8]) -> WantedBatch {
+    WantedBatch {
+        outcome: Err(fault),
+        lines,
+    }
+}
+
 /// Asserts how a batch of one text ends, and what it writes of it, in the case of this number.
 fn assert_writes<R: Threads + Wait + Abort + Sync>(
     rt: &R,
     alloc: Global,
     mut source: ShortSource<'_>,
     workers: u32,
-    outcome: Result<Status, Fault>,
-    lines: &[u8],
+    wanted: WantedBatch,
     number: usize,
 ) {
     let mut out = MemorySink::new(alloc);
@@ -75,25 +93,29 @@ fn assert_writes<R: Threads + Wait + Abort + Sync>(
         workers,
         &mut out,
     );
-    expect(rt, outcome_of(counted) == Some(outcome), number);
-    expect(rt, out.as_slice() == lines, number);
+    expect(rt, outcome_of(counted) == Some(wanted.outcome), number);
+    expect(rt, out.as_slice() == wanted.lines, number);
 }
 
 #[test]
 fn writes_a_line_for_each_piece(rt: HostRuntime) {
+    let wanted = WantedBatch {
+        outcome: Ok(Status::No),
+        lines: LINES,
+    };
     for workers in 1..3u32 {
         let source = ShortSource::new(THREE, 7);
-        assert_writes(&rt, rt.alloc(), source, workers, Ok(Status::No), LINES, 1);
+        assert_writes(&rt, rt.alloc(), source, workers, wanted, 1);
     }
 }
 
 #[test]
 fn refuses_with_the_first_refusal(rt: HostRuntime) {
     let source = ShortSource::new(b"vsc 1\nvsc 1\nproc\nvsc\n", 99);
-    let refusal = Err(Fault::Trace(TraceCause::UnknownLine, 3));
     let lines =
         b"t:1 CONSISTENT\nt:2 refused: trace 4 UnknownLine at 3\nt:3 refused: trace 3 Header at 4\n";
-    assert_writes(&rt, rt.alloc(), source, 1, refusal, lines, 2);
+    let wanted = refused(Fault::Trace(TraceCause::UnknownLine, 3), lines);
+    assert_writes(&rt, rt.alloc(), source, 1, wanted, 2);
 }
 
 #[test]
@@ -115,16 +137,16 @@ fn writes_a_prefix_if_the_sink_fails(rt: HostRuntime) {
 #[test]
 fn refuses_what_cannot_be_read(rt: HostRuntime) {
     let source = ShortSource::new(THREE, 7).failing_at(3);
-    let line = b"t:1 refused: device\n";
-    assert_writes(&rt, rt.alloc(), source, 1, Err(Fault::Device), line, 3);
+    let wanted = refused(Fault::Device, b"t:1 refused: device\n");
+    assert_writes(&rt, rt.alloc(), source, 1, wanted, 3);
 }
 
 // Sixteen calls make a block, of 80 bytes, in which the first trace ends.
 #[test]
 fn writes_the_lines_of_earlier_blocks_if_the_source_fails(rt: HostRuntime) {
     let source = ShortSource::new(THREE, 5).failing_at(17);
-    let lines = b"t:1 CONSISTENT\nt:2 refused: device\n";
-    assert_writes(&rt, rt.alloc(), source, 1, Err(Fault::Device), lines, 4);
+    let wanted = refused(Fault::Device, b"t:1 CONSISTENT\nt:2 refused: device\n");
+    assert_writes(&rt, rt.alloc(), source, 1, wanted, 4);
 }
 
 #[test]
@@ -145,10 +167,10 @@ fn counts_on_behind_another_text(rt: HostRuntime) {
 // The first block ends within the second line `vsc 1`, or within a line `vscs` that begins no trace.
 #[test]
 fn cuts_no_piece_within_a_line(rt: HostRuntime) {
+    let lines = b"t:1 CONSISTENT\nt:2 refused: trace 4 UnknownLine at 6\n";
+    let wanted = refused(Fault::Trace(TraceCause::UnknownLine, 6), lines);
     for size in 1..9usize {
         let source = ShortSource::new(b"vsc 1\nproc P\nW x 1\nvsc 1\nproc P\nvscs 1\n", size);
-        let refusal = Err(Fault::Trace(TraceCause::UnknownLine, 6));
-        let lines = b"t:1 CONSISTENT\nt:2 refused: trace 4 UnknownLine at 6\n";
-        assert_writes(&rt, rt.alloc(), source, 1, refusal, lines, size);
+        assert_writes(&rt, rt.alloc(), source, 1, wanted, size);
     }
 }

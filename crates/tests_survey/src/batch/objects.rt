@@ -1,9 +1,8 @@
 //! Lines that are objects of JSON.
 
-use crate::batch::batches::THREE;
-use crate::expectations::{ample, expect};
-use batch_report::{BatchRun, BatchSearch, JsonForm, NoMembers, VerdictTally, run_batch_in};
-use cube_jobs::Options;
+use crate::batch::batches::{THREE, search_by};
+use crate::expectations::expect;
+use batch_report::{BatchRun, JsonForm, NoMembers, VerdictTally, run_batch_in};
 use dimacs::{MemorySink, SinkFault};
 use std::alloc::Global;
 use std::process::Abort;
@@ -19,15 +18,9 @@ fn objects_of<R: Threads + Wait + Abort + Sync>(
     source: &mut ShortSource<'_>,
     out: &mut MemorySink,
 ) -> Result<VerdictTally, SinkFault> {
-    let short = ample(rt, Options::new(1, 3, 100_000, 1));
-    let long = ample(rt, Options::new(1, 3, 100_000, 1));
+    let search = search_by(rt, 2);
     let surveyor = BySaturation { budget: 1_000_000 };
     let form = JsonForm { members: NoMembers };
-    let search = BatchSearch {
-        workers: 2,
-        short,
-        long,
-    };
     let run = BatchRun {
         alloc,
         rt,

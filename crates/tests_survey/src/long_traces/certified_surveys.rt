@@ -58,6 +58,12 @@ fn certifies_the_part_of_a_core(rt: HostRuntime) {
     );
 }
 
+/// Asserts that no core was named, in the case of this number.
+fn assert_without_core(rt: &impl Abort, found: &Written, number: usize) {
+    expect(rt, found.names.as_slice().is_empty(), number);
+    expect(rt, found.part.as_slice().is_empty(), number);
+}
+
 const BACK: &str = "vsc 2\nproc P\nW x 1\nW x 2\nbefore P 2 P 1\n";
 
 // A pair that goes back in one process is in no part, so there is no core, and the certificate is one for the whole.
@@ -68,8 +74,7 @@ fn certifies_the_whole_without_a_core(rt: HostRuntime) {
         otherwise: Lie::Nothing,
     };
     let found = written_of(rt.alloc(), &rt, BACK, &liar, Status::No, 14);
-    expect(&rt, found.names.as_slice().is_empty(), 14);
-    expect(&rt, found.part.as_slice().is_empty(), 14);
+    assert_without_core(&rt, &found, 14);
     assert_accepts(
         rt.alloc(),
         &rt,
@@ -87,8 +92,7 @@ fn certifies_the_whole_by_reasons(rt: HostRuntime) {
     let found = written_of(rt.alloc(), &rt, trace.as_str(), &survey, Status::No, 18);
     let header: &[u8] = b"vsc-reasons 1\n";
     expect(&rt, found.certificate.as_slice().starts_with(header), 18);
-    expect(&rt, found.names.as_slice().is_empty(), 18);
-    expect(&rt, found.part.as_slice().is_empty(), 18);
+    assert_without_core(&rt, &found, 18);
     assert_accepts(
         rt.alloc(),
         &rt,
@@ -101,8 +105,7 @@ fn certifies_the_whole_by_reasons(rt: HostRuntime) {
 /// Asserts that nothing is written beside the report, in the case of this number.
 fn assert_silent(rt: &impl Abort, found: &Written, number: usize) {
     expect(rt, found.certificate.as_slice().is_empty(), number);
-    expect(rt, found.names.as_slice().is_empty(), number);
-    expect(rt, found.part.as_slice().is_empty(), number);
+    assert_without_core(rt, found, number);
 }
 
 // With another report than INCONSISTENT nothing is written beside it.

@@ -1,17 +1,14 @@
 //! Surveys over a source that hands out a byte a call and sinks that take a byte a call, of which one fails at one of its calls.
 
-use crate::expectations::{ample, expect};
-use crate::long_traces::answers::texts_of;
+use crate::expectations::expect;
+use crate::long_traces::answers::{Sinks, SurveyDevices, answer_over, texts_of, written_to};
 use crate::long_traces::traces::{STORE_BUFFERING, no_hint};
-use cube_jobs::{OpenGate, Options};
-use dimacs::{MemorySink, ShortSink};
+use dimacs::ShortSink;
 use std::alloc::Global;
 use std::process::Abort;
 use std::sync::Wait;
 use std::thread::Threads;
 use survey::BySaturation;
-use survey_report::{run_certified_survey, run_survey};
-use survey_verdict::SurveyRun;
 use verdict_report::{Fault, ShortSource, Status};
 
 /// What is reported of store buffering: its core is all of it.
@@ -26,15 +23,6 @@ const PART: &[u8] =
 
 /// A survey that finds this core.
 const SURVEY: BySaturation = BySaturation { budget: 1_000_000 };
-
-/// The sinks of a survey that certifies.
-#[derive(Drop)]
-struct Sinks {
-    certificate: ShortSink,
-    names: ShortSink,
-    part: ShortSink,
-    report: ShortSink,
-}
 
 /// A source of store buffering that does not fail.
 fn store_buffering() -> ShortSource<'static> {
@@ -61,76 +49,72 @@ fn is_front(taken: &[u8], text: &[u8], length: usize) -> bool {
     taken.len() == length && text.starts_with(taken)
 }
 
+/// Devices for store buffering without a hint that do not fail.
+fn sound_devices(alloc: Global) -> SurveyDevices<'static, 'static> {
+    SurveyDevices {
+        trace: store_buffering(),
+        hint: no_hint(),
+        report: sink(alloc),
+    }
+}
+
 /// Asserts that a survey over these devices ends as one of them fails, and how many bytes of the report its sink takes.
 fn assert_cut_off<R: Threads + Wait + Abort + Sync>(
     alloc: Global,
     rt: &R,
-    mut trace: ShortSource<'_>,
-    mut hint: ShortSource<'_>,
-    mut report: ShortSink,
+    devices: SurveyDevices<'_, '_>,
     taken: usize,
     number: usize,
 ) {
-    let options = ample(rt, Options::new(1, 0, 10_000, 1));
-    let run = SurveyRun {
-        alloc,
-        rt,
-        options: &options,
-        gate: &OpenGate,
-    };
-    let outcome = run_survey(&run, &SURVEY, &mut trace, &mut hint, &mut report);
-    expect(rt, outcome == Err(Fault::Device), number);
-    expect(rt, is_front(report.as_slice(), REPORT, taken), number);
+    let found = answer_over(alloc, rt, devices, &SURVEY, 10_000);
+    expect(rt, found.outcome == Err(Fault::Device), number);
+    expect(rt, is_front(found.report.as_slice(), REPORT, taken), number);
 }
 
-/// Asserts that a survey that certifies ends as one of these devices fails, and how many bytes its sinks take: of this certificate, the
-/// names, the part and the report.
+/// The number of bytes that each sink of a survey that certifies takes, if this is the whole certificate.
+#[derive(Clone, Copy)]
+struct TakenBytes<'a> {
+    whole: &'a [u8],
+    certificate: usize,
+    names: usize,
+    part: usize,
+    report: usize,
+}
+
+/// No sink takes a byte.
+const NOTHING: TakenBytes<'static> = TakenBytes {
+    whole: b"",
+    certificate: 0,
+    names: 0,
+    part: 0,
+    report: 0,
+};
+
+/// Asserts that a survey that certifies ends as one of these devices fails, and how many bytes of the certificate, the names, the part and
+/// the report its sinks take.
 fn assert_certified_cut_off<R: Threads + Wait + Abort + Sync>(
     alloc: Global,
     rt: &R,
-    mut trace: ShortSource<'_>,
+    trace: ShortSource<'_>,
     sinks: Sinks,
-    whole: &[u8],
-    taken: [usize; 4],
+    taken: TakenBytes<'_>,
     number: usize,
 ) {
-    let options = ample(rt, Options::new(1, 0, 10_000, 1));
-    let mut hint = no_hint();
-    let Sinks {
-        mut certificate,
-        mut names,
-        mut part,
-        mut report,
-    } = sinks;
-    let run = SurveyRun {
-        alloc,
-        rt,
-        options: &options,
-        gate: &OpenGate,
-    };
-    let outcome = run_certified_survey(
-        &run,
-        &SURVEY,
-        &mut trace,
-        &mut hint,
-        &mut certificate,
-        &mut names,
-        &mut part,
-        &mut report,
-    );
-    expect(rt, outcome == Err(Fault::Device), number);
-    expect(
-        rt,
-        is_front(certificate.as_slice(), whole, taken[0]),
-        number,
-    );
-    expect(rt, is_front(names.as_slice(), NAMES, taken[1]), number);
-    expect(rt, is_front(part.as_slice(), PART, taken[2]), number);
-    expect(rt, is_front(report.as_slice(), REPORT, taken[3]), number);
+    let found = written_to(alloc, rt, trace, sinks, &SURVEY);
+    expect(rt, found.outcome == Err(Fault::Device), number);
+    let certificate = found.certificate.as_slice();
+    let is_right = is_front(certificate, taken.whole, taken.certificate);
+    expect(rt, is_right, number);
+    let is_right = is_front(found.names.as_slice(), NAMES, taken.names);
+    expect(rt, is_right, number);
+    let is_right = is_front(found.part.as_slice(), PART, taken.part);
+    expect(rt, is_right, number);
+    let is_right = is_front(found.report.as_slice(), REPORT, taken.report);
+    expect(rt, is_right, number);
 }
 
 /// The certificate that is written where nothing fails. `certified_surveys` has it checked.
-fn whole_certificate<R: Threads + Wait + Abort + Sync>(alloc: Global, rt: &R) -> MemorySink {
+fn whole_certificate<R: Threads + Wait + Abort + Sync>(alloc: Global, rt: &R) -> ShortSink {
     let found = texts_of(alloc, rt, STORE_BUFFERING, &SURVEY);
     expect(rt, found.outcome == Ok(Status::No), 0);
     expect(rt, found.names.as_slice() == NAMES, 0);
@@ -183,13 +167,14 @@ fn assert_front<R: Threads + Wait + Abort + Sync>(
         part: sink_at(alloc, PART_SINK, failing, count),
         report: sink_at(alloc, REPORT_SINK, failing, count),
     };
-    let taken = [
-        taken_at(CERTIFICATE_SINK, whole.len(), failing, count),
-        taken_at(NAMES_SINK, NAMES.len(), failing, count),
-        taken_at(PART_SINK, PART.len(), failing, count),
-        taken_at(REPORT_SINK, REPORT.len(), failing, count),
-    ];
-    assert_certified_cut_off(alloc, rt, store_buffering(), sinks, whole, taken, count);
+    let taken = TakenBytes {
+        whole,
+        certificate: taken_at(CERTIFICATE_SINK, whole.len(), failing, count),
+        names: taken_at(NAMES_SINK, NAMES.len(), failing, count),
+        part: taken_at(PART_SINK, PART.len(), failing, count),
+        report: taken_at(REPORT_SINK, REPORT.len(), failing, count),
+    };
+    assert_certified_cut_off(alloc, rt, store_buffering(), sinks, taken, count);
 }
 
 /// Asserts so of each count below the length of the text of the sink of this place.
@@ -209,23 +194,16 @@ fn assert_fronts<R: Threads + Wait + Abort + Sync>(
 fn writes_nothing_if_the_source_fails(rt: HostRuntime) {
     for call in 1..=STORE_BUFFERING.len() + 1 {
         let alloc = rt.alloc();
-        assert_cut_off(
-            alloc,
-            &rt,
-            failing_at(call),
-            no_hint(),
-            sink(alloc),
-            0,
-            call,
-        );
+        let mut devices = sound_devices(alloc);
+        devices.trace = failing_at(call);
+        assert_cut_off(alloc, &rt, devices, 0, call);
         let sinks = Sinks {
             certificate: sink(alloc),
             names: sink(alloc),
             part: sink(alloc),
             report: sink(alloc),
         };
-        let taken = [0, 0, 0, 0];
-        assert_certified_cut_off(alloc, &rt, failing_at(call), sinks, b"", taken, call);
+        assert_certified_cut_off(alloc, &rt, failing_at(call), sinks, NOTHING, call);
     }
 }
 
@@ -233,16 +211,9 @@ fn writes_nothing_if_the_source_fails(rt: HostRuntime) {
 fn writes_a_prefix_of_the_report_if_its_sink_fails(rt: HostRuntime) {
     for count in 0..REPORT.len() {
         let alloc = rt.alloc();
-        let report = sink_failing_after(alloc, count);
-        assert_cut_off(
-            alloc,
-            &rt,
-            store_buffering(),
-            no_hint(),
-            report,
-            count,
-            count,
-        );
+        let mut devices = sound_devices(alloc);
+        devices.report = sink_failing_after(alloc, count);
+        assert_cut_off(alloc, &rt, devices, count, count);
     }
 }
 
@@ -250,8 +221,9 @@ fn writes_a_prefix_of_the_report_if_its_sink_fails(rt: HostRuntime) {
 fn writes_nothing_if_the_hint_fails(rt: HostRuntime) {
     for call in 1..=NAMES.len() + 1 {
         let alloc = rt.alloc();
-        let hint = ShortSource::new(NAMES, 1).failing_at(call as u64);
-        assert_cut_off(alloc, &rt, store_buffering(), hint, sink(alloc), 0, call);
+        let mut devices = sound_devices(alloc);
+        devices.hint = ShortSource::new(NAMES, 1).failing_at(call as u64);
+        assert_cut_off(alloc, &rt, devices, 0, call);
     }
 }
 

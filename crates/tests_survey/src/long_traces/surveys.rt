@@ -18,19 +18,37 @@ use surveyor::{Finding, Surveyor};
 use trace_text::trace_reader::read_trace;
 use verdict_report::{ShortSource, Status, run_judge};
 
+/// What has to be answered and reported of a trace.
+#[derive(Clone, Copy)]
+struct WantedReport {
+    status: Status,
+    report: &'static [u8],
+}
+
+/// The answer on store buffering, also among other operations.
+const CORE_OF_FOUR: WantedReport = WantedReport {
+    status: Status::No,
+    report: b"INCONSISTENT operations=4 cubes=1\nP.1\nP.2\nQ.1\nQ.2\n",
+};
+
+/// The answer on the hand-off.
+const HANDED_OFF: WantedReport = WantedReport {
+    status: Status::Yes,
+    report: b"CONSISTENT\nP.1\nQ.1\n",
+};
+
 /// Asserts what is reported of the trace, in the case of this number.
 fn assert_reports<R: Threads + Wait + Abort + Sync, S: Surveyor>(
     alloc: Global,
     rt: &R,
     trace: &str,
     surveyor: &S,
-    status: Status,
-    report: &[u8],
+    wanted: WantedReport,
     number: usize,
 ) {
     let found = answer_with(alloc, rt, trace, "", surveyor, 10_000);
-    expect(rt, found.outcome == Ok(status), number);
-    expect(rt, found.report.as_slice() == report, number);
+    expect(rt, found.outcome == Ok(wanted.status), number);
+    expect(rt, found.report.as_slice() == wanted.report, number);
 }
 
 // Nothing that a surveyor says turns a verdict.
@@ -50,29 +68,14 @@ fn decides_whatever_a_surveyor_says(rt: HostRuntime) {
             lie,
             otherwise: Lie::Nothing,
         };
-        let report = b"INCONSISTENT operations=4 cubes=1\nP.1\nP.2\nQ.1\nQ.2\n";
-        assert_reports(
-            rt.alloc(),
-            &rt,
-            STORE_BUFFERING,
-            &liar,
-            Status::No,
-            report,
-            1,
-        );
-        let report = b"CONSISTENT\nP.1\nQ.1\n";
-        assert_reports(rt.alloc(), &rt, HAND_OFF, &liar, Status::Yes, report, 2);
+        assert_reports(rt.alloc(), &rt, STORE_BUFFERING, &liar, CORE_OF_FOUR, 1);
+        assert_reports(rt.alloc(), &rt, HAND_OFF, &liar, HANDED_OFF, 2);
         let long = ample(&rt, with_many_writes(rt.alloc(), STORE_BUFFERING));
-        let report = b"UNKNOWN placed=7 undecided=3\n";
-        assert_reports(
-            rt.alloc(),
-            &rt,
-            long.as_str(),
-            &liar,
-            Status::Unknown,
-            report,
-            3,
-        );
+        let wanted = WantedReport {
+            status: Status::Unknown,
+            report: b"UNKNOWN placed=7 undecided=3\n",
+        };
+        assert_reports(rt.alloc(), &rt, long.as_str(), &liar, wanted, 3);
     }
 }
 
@@ -81,25 +84,9 @@ fn decides_whatever_a_surveyor_says(rt: HostRuntime) {
 fn finds_the_core_of_a_long_trace(rt: HostRuntime) {
     let survey = BySaturation { budget: 1_000_000 };
     let long = ample(&rt, with_many_writes(rt.alloc(), STORE_BUFFERING));
-    let report = b"INCONSISTENT operations=4 cubes=1\nP.1\nP.2\nQ.1\nQ.2\n";
-    assert_reports(
-        rt.alloc(),
-        &rt,
-        long.as_str(),
-        &survey,
-        Status::No,
-        report,
-        4,
-    );
-    assert_reports(
-        rt.alloc(),
-        &rt,
-        STORE_BUFFERING,
-        &survey,
-        Status::No,
-        report,
-        5,
-    );
+    let text = long.as_str();
+    assert_reports(rt.alloc(), &rt, text, &survey, CORE_OF_FOUR, 4);
+    assert_reports(rt.alloc(), &rt, STORE_BUFFERING, &survey, CORE_OF_FOUR, 5);
 }
 
 // A budget of no step finds nothing, and what is small is decided all the same.
@@ -107,18 +94,12 @@ fn finds_the_core_of_a_long_trace(rt: HostRuntime) {
 fn says_how_far_it_came(rt: HostRuntime) {
     let survey = BySaturation { budget: 0 };
     let long = ample(&rt, with_many_writes(rt.alloc(), STORE_BUFFERING));
-    let report = b"UNKNOWN placed=0 undecided=0\n";
-    assert_reports(
-        rt.alloc(),
-        &rt,
-        long.as_str(),
-        &survey,
-        Status::Unknown,
-        report,
-        6,
-    );
-    let report = b"CONSISTENT\nP.1\nQ.1\n";
-    assert_reports(rt.alloc(), &rt, HAND_OFF, &survey, Status::Yes, report, 7);
+    let wanted = WantedReport {
+        status: Status::Unknown,
+        report: b"UNKNOWN placed=0 undecided=0\n",
+    };
+    assert_reports(rt.alloc(), &rt, long.as_str(), &survey, wanted, 6);
+    assert_reports(rt.alloc(), &rt, HAND_OFF, &survey, HANDED_OFF, 7);
 }
 
 // The survey finds a schedule of a long trace, which a judge takes.
@@ -206,14 +187,9 @@ fn names_the_operations_that_the_lines_name(rt: HostRuntime) {
         lie: Lie::Certificate(STALE_REASONS),
         otherwise: Lie::Nothing,
     };
-    let report = b"INCONSISTENT operations=4 reasons=3\nP.1\nP.2\nQ.1\nQ.2\n";
-    assert_reports(
-        rt.alloc(),
-        &rt,
-        STALE_MESSAGE,
-        &liar,
-        Status::No,
-        report,
-        26,
-    );
+    let wanted = WantedReport {
+        status: Status::No,
+        report: b"INCONSISTENT operations=4 reasons=3\nP.1\nP.2\nQ.1\nQ.2\n",
+    };
+    assert_reports(rt.alloc(), &rt, STALE_MESSAGE, &liar, wanted, 26);
 }

@@ -34,40 +34,51 @@ pub const LEARNED_BEFORE: &str =
     proc P2\nW x0 4\nW x1 2\nU x1 2 5\nR x0 3\nW x1 1\nU x0 4 3\nU x1 1 5\nW x0 0\nU x1 5 1\nU x1 1 3\nR x0 5\nU x1 3 1\n\
     W x0 2\nU x0 2 4\nU x0 5 5\nW x0 3\nR x0 3\nR x0 3\n";
 
+/// Appends the lines a number of times.
+fn push_times(text: &mut String, lines: &str, count: u32) -> Result<(), AllocError> {
+    for _ in 0..count {
+        text.push_str(lines)?;
+    }
+    Ok(())
+}
+
+/// The text of these lines, each piece of them a number of times.
+fn text_of(alloc: Global, pieces: &[(&str, u32)]) -> Result<String, AllocError> {
+    let mut text = String::new(alloc);
+    for (lines, count) in pieces {
+        push_times(&mut text, *lines, *count)?;
+    }
+    Ok(text)
+}
+
 /// The trace with a process of two hundred writes to another location behind it.
 pub fn with_many_writes(alloc: Global, trace: &str) -> Result<String, AllocError> {
     let mut text = String::new(alloc);
     text.push_str(trace)?;
     text.push_str("proc R\n")?;
-    for _ in 0..200 {
-        text.push_str("W z 1\n")?;
-    }
+    push_times(&mut text, "W z 1\n", 200)?;
     Ok(text)
 }
 
 /// Store buffering, of which the first process has two hundred writes to another location before it.
 pub fn after_many_writes(alloc: Global) -> Result<String, AllocError> {
-    let mut text = String::new(alloc);
-    text.push_str("vsc 1\ninit x 0\ninit y 0\nproc P\n")?;
-    for _ in 0..200 {
-        text.push_str("W z 1\n")?;
-    }
-    text.push_str("W x 1\nR y 0\nproc Q\nW y 1\nR x 0\n")?;
-    Ok(text)
+    let pieces = [
+        ("vsc 1\ninit x 0\ninit y 0\nproc P\n", 1),
+        ("W z 1\n", 200),
+        ("W x 1\nR y 0\nproc Q\nW y 1\nR x 0\n", 1),
+    ];
+    text_of(alloc, &pieces)
 }
 
 /// Two processes acquire a lock and release it, a hundred times each; one of the releases is missing.
 pub fn counted_lock(alloc: Global) -> Result<String, AllocError> {
-    let mut text = String::new(alloc);
-    text.push_str("vsc 1\ninit l 0\nproc P\n")?;
-    for _ in 0..100 {
-        text.push_str("U l 0 1\nW l 0\n")?;
-    }
-    text.push_str("proc Q\nU l 0 1\n")?;
-    for _ in 0..100 {
-        text.push_str("U l 0 1\nW l 0\n")?;
-    }
-    Ok(text)
+    let pieces = [
+        ("vsc 1\ninit l 0\nproc P\n", 1),
+        ("U l 0 1\nW l 0\n", 100),
+        ("proc Q\nU l 0 1\n", 1),
+        ("U l 0 1\nW l 0\n", 100),
+    ];
+    text_of(alloc, &pieces)
 }
 
 /// Sixty processes in a ring, of which each reads what the one before it writes twice, and then writes twice itself: none can read first. All

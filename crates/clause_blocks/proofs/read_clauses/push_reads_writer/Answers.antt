@@ -16,8 +16,8 @@ loop-k-preserved c =
     let t = c.args.layout.now in
     let writers = c.other_writers-writers.result.now in
     let there = literal_there t c.args.r writers c.args.after.now c.other_writers-writers.ensures c.requires.after c.loop-k.k in
-    let clause = λ (v : ℕ). implies c.args.variable (stands_before t v c.args.w ∷ stands_before t c.args.r v ∷ []) in
-    let step = map_taken clause (λ (v : ℕ). not (v == c.args.w)) c.push.new.self.items writers c.loop-k.k 0 in
+    let clause = λ (v : ℕ). implies c.args.choice.variable (stands_before t v c.args.choice.writer ∷ stands_before t c.args.r v ∷ []) in
+    let step = map_taken clause (λ (v : ℕ). not (v == c.args.choice.writer)) c.push.new.self.items writers c.loop-k.k 0 in
     elim c.if-v-w.branch [
       | then-v-w+in_ok-push-2 w ↦ (
           ap (λ v. v.items) w.clauses-is ∙ w.in_ok-push-2.ensures.items
@@ -32,9 +32,9 @@ pub returns : goal.returns
 returns c =
     let t = c.args.layout.now in
     let old = c.args.clauses.now.items in
-    let first = implies c.args.variable (stands_before t c.args.w c.args.r ∷ []) in
-    let clause = λ (v : ℕ). implies c.args.variable (stands_before t v c.args.w ∷ stands_before t c.args.r v ∷ []) in
+    let first = implies c.args.choice.variable (stands_before t c.args.choice.writer c.args.r ∷ []) in
+    let clause = λ (v : ℕ). implies c.args.choice.variable (stands_before t v c.args.choice.writer ∷ stands_before t c.args.r v ∷ []) in
     let all = take_all c.loop-k.k c.other_writers-writers.result.now c.loop-k-test.false ∙ c.other_writers-writers.ensures in
     let begun : c.push.new.self.items ≡ old ++ first ∷ [] = c.in_ok-push.ensures.items
     ∙ (λ p. old ++ (c.binary.ensures ∙ (λ q. (c.negated-unchosen.ensures.number ∙ ap neg_ℤ c.positive.ensures) q ∷ c.order_lit.ensures q ∷ [])) p ∷ []) in
-    c.loop-k.invariant ∙ (λ p. begun p ++ map clause (others c.args.w (all p))) ∙ append_assoc old (first ∷ []) _
+    c.loop-k.invariant ∙ (λ p. begun p ++ map clause (others c.args.choice.writer (all p))) ∙ append_assoc old (first ∷ []) _

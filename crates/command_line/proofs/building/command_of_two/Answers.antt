@@ -10,7 +10,7 @@ use Rattle.command_line.proofs.building.command_of_two.Goals as goal
 
 pub returns-clause-app : goal.returns-clause-app
 returns-clause-app c =
-    let named : app_of c.after_help-command.result ≡ new_app c.args.name.now =
+    let named : app_of c.after_help-command.result ≡ new_app c.args.help.name.now =
     ap app_of_fields c.after_help-command.ensures ∙ ap app_of_fields c.about.ensures ∙ c.new.ensures.app in
     IfOk-weaker c.with_two.result _ _
     (λ r h. h ∙ ap (λ (a : App). with_rule (with_rule a (rule_of c.args.first)) (rule_of c.args.second)) named)

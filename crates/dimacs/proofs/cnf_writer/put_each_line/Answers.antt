@@ -7,30 +7,30 @@ use Rattle.dimacs.proofs.cnf_writer.put_each_line.Goals as goal
 
 pub returns-in_err-kept-clause-front : goal.returns-in_err-kept-clause-front
 returns-in_err-kept-clause-front g c =
-    let opposite : (c.negated.result ∷ c.negated-2.result ∷ c.args.third ∷ []) ≡ (neg_ℤ c.args.first ∷ neg_ℤ c.args.second ∷ c.args.third ∷ []) = λ p. c.negated.ensures.number p ∷ c.negated-2.ensures.number p ∷ c.args.third ∷ [] in
+    let opposite : (c.negated.result ∷ c.negated-2.result ∷ c.args.literals.third ∷ []) ≡ (neg_ℤ c.args.literals.first ∷ neg_ℤ c.args.literals.second ∷ c.args.literals.third ∷ []) = λ p. c.negated.ensures.number p ∷ c.negated-2.ensures.number p ∷ c.args.literals.third ∷ [] in
     let head = take c.args.at c.args.buffer.now in
     on_err c.from_residual.result
-    (first_front head (clause_line (neg_ℤ c.args.first ∷ neg_ℤ c.args.second ∷ c.args.third ∷ [])) (clause_line (c.args.first ∷ c.args.second ∷ neg_ℤ c.args.third ∷ [])) _ _
+    (first_front head (clause_line (neg_ℤ c.args.literals.first ∷ neg_ℤ c.args.literals.second ∷ c.args.literals.third ∷ [])) (clause_line (c.args.literals.first ∷ c.args.literals.second ∷ neg_ℤ c.args.literals.third ∷ [])) _ _
     (subst (λ l. AppendsFront (g.W.Sink.written c.args.sink.now) (g.W.Sink.written c.put_line.new.sink) (head ++ clause_line l)) opposite c.in_err-kept.ensures.front))
 
 pub returns-clause-sent : goal.returns-clause-sent
 returns-clause-sent g c =
-    let opposite : (c.negated.result ∷ c.negated-2.result ∷ c.args.third ∷ []) ≡ (neg_ℤ c.args.first ∷ neg_ℤ c.args.second ∷ c.args.third ∷ []) = λ p. c.negated.ensures.number p ∷ c.negated-2.ensures.number p ∷ c.args.third ∷ [] in
-    let same : (c.args.first ∷ c.args.second ∷ c.negated-3.result ∷ []) ≡ (c.args.first ∷ c.args.second ∷ neg_ℤ c.args.third ∷ []) = λ p. c.args.first ∷ c.args.second ∷ c.negated-3.ensures.number p ∷ [] in
+    let opposite : (c.negated.result ∷ c.negated-2.result ∷ c.args.literals.third ∷ []) ≡ (neg_ℤ c.args.literals.first ∷ neg_ℤ c.args.literals.second ∷ c.args.literals.third ∷ []) = λ p. c.negated.ensures.number p ∷ c.negated-2.ensures.number p ∷ c.args.literals.third ∷ [] in
+    let same : (c.args.literals.first ∷ c.args.literals.second ∷ c.negated-3.result ∷ []) ≡ (c.args.literals.first ∷ c.args.literals.second ∷ neg_ℤ c.args.literals.third ∷ []) = λ p. c.args.literals.first ∷ c.args.literals.second ∷ c.negated-3.ensures.number p ∷ [] in
     let head = take c.args.at c.args.buffer.now in
     let kept = take c.in_ok-kept.kept c.put_line.new.buffer in
     IfOk-weaker c.put_line-2.result _ _ (λ end t.
-    both_sent head (clause_line (neg_ℤ c.args.first ∷ neg_ℤ c.args.second ∷ c.args.third ∷ [])) (clause_line (c.args.first ∷ c.args.second ∷ neg_ℤ c.args.third ∷ [])) _ _ _ kept (take end c.put_line-2.new.buffer)
+    both_sent head (clause_line (neg_ℤ c.args.literals.first ∷ neg_ℤ c.args.literals.second ∷ c.args.literals.third ∷ [])) (clause_line (c.args.literals.first ∷ c.args.literals.second ∷ neg_ℤ c.args.literals.third ∷ [])) _ _ _ kept (take end c.put_line-2.new.buffer)
     (subst (λ l. IsSent (g.W.Sink.written c.args.sink.now) (g.W.Sink.written c.put_line.new.sink) kept (head ++ clause_line l)) opposite c.in_ok-kept.ensures.sent)
     (subst (λ l. IsSent (g.W.Sink.written c.put_line.new.sink) (g.W.Sink.written c.put_line-2.new.sink) (take end c.put_line-2.new.buffer) (kept ++ clause_line l)) same t)) c.put_line-2.ensures.sent
 
 pub returns-clause-front : goal.returns-clause-front
 returns-clause-front g c =
-    let opposite : (c.negated.result ∷ c.negated-2.result ∷ c.args.third ∷ []) ≡ (neg_ℤ c.args.first ∷ neg_ℤ c.args.second ∷ c.args.third ∷ []) = λ p. c.negated.ensures.number p ∷ c.negated-2.ensures.number p ∷ c.args.third ∷ [] in
-    let same : (c.args.first ∷ c.args.second ∷ c.negated-3.result ∷ []) ≡ (c.args.first ∷ c.args.second ∷ neg_ℤ c.args.third ∷ []) = λ p. c.args.first ∷ c.args.second ∷ c.negated-3.ensures.number p ∷ [] in
+    let opposite : (c.negated.result ∷ c.negated-2.result ∷ c.args.literals.third ∷ []) ≡ (neg_ℤ c.args.literals.first ∷ neg_ℤ c.args.literals.second ∷ c.args.literals.third ∷ []) = λ p. c.negated.ensures.number p ∷ c.negated-2.ensures.number p ∷ c.args.literals.third ∷ [] in
+    let same : (c.args.literals.first ∷ c.args.literals.second ∷ c.negated-3.result ∷ []) ≡ (c.args.literals.first ∷ c.args.literals.second ∷ neg_ℤ c.args.literals.third ∷ []) = λ p. c.args.literals.first ∷ c.args.literals.second ∷ c.negated-3.ensures.number p ∷ [] in
     let head = take c.args.at c.args.buffer.now in
     let kept = take c.in_ok-kept.kept c.put_line.new.buffer in
     on_err_map c.put_line-2.result (λ f.
-    second_front head (clause_line (neg_ℤ c.args.first ∷ neg_ℤ c.args.second ∷ c.args.third ∷ [])) (clause_line (c.args.first ∷ c.args.second ∷ neg_ℤ c.args.third ∷ [])) _ _ _ kept
+    second_front head (clause_line (neg_ℤ c.args.literals.first ∷ neg_ℤ c.args.literals.second ∷ c.args.literals.third ∷ [])) (clause_line (c.args.literals.first ∷ c.args.literals.second ∷ neg_ℤ c.args.literals.third ∷ [])) _ _ _ kept
     (subst (λ l. IsSent (g.W.Sink.written c.args.sink.now) (g.W.Sink.written c.put_line.new.sink) kept (head ++ clause_line l)) opposite c.in_ok-kept.ensures.sent)
     (subst (λ l. AppendsFront (g.W.Sink.written c.put_line.new.sink) (g.W.Sink.written c.put_line-2.new.sink) (kept ++ clause_line l)) same f)) c.put_line-2.ensures.front

@@ -8,7 +8,7 @@ use Rattle.lrat_check.proofs.checker.take_step.Goals as goal
 
 pub returns-in_ok-insert-in-Addition-clause-step : goal.returns-in_ok-insert-in-Addition-clause-step
 returns-in_ok-insert-in-Addition-clause-step g c = λ base h.
-    let clauses = (g.F.ClauseList.formula c.args.formula.now).clauses in
+    let clauses = (g.F.ClauseList.formula c.args.run.now.formula.now).clauses in
     let old = clause_at clauses c.args.active.now.clauses in
     let between = c.justify.new.active in
     let new = clause_at clauses c.insert.new.self.clauses in

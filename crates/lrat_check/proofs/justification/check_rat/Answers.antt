@@ -27,13 +27,13 @@ module _ (active : ℕ → Option (List ℤ)) (groups : List Group) (reached : L
 
 pub returns-then-is_empty-clause-rat : goal.returns-then-is_empty-clause-rat
 returns-then-is_empty-clause-rat g c = λ base h.
-    let active = clause_at (g.F.ClauseList.formula c.args.formula.now).clauses c.args.active.now.clauses in
+    let active = clause_at (g.F.ClauseList.formula c.args.run.now.formula.now).clauses c.args.active.now.clauses in
     let none : length c.args.clause.now ≡ 0 = search rules in
     (rat_empty active (groups_of c.args.hints.now) c.args.trues.now c.args.clause.now c.without_pivot.result none (c.without_pivot.ensures active c.args.trues.now), refl)
 
 pub returns-then-branch-clause-rat : goal.returns-then-branch-clause-rat
 returns-then-branch-clause-rat g c = λ base h.
-    let clauses = (g.F.ClauseList.formula c.args.formula.now).clauses in
+    let clauses = (g.F.ClauseList.formula c.args.run.now.formula.now).clauses in
     let active = clause_at clauses c.args.active.now.clauses in
     let groups = groups_of c.args.hints.now in
     let pivot = c.index-clause-0.result in
@@ -49,7 +49,7 @@ returns-then-branch-clause-rat g c = λ base h.
 
 pub returns-else-branch-clause-rat : goal.returns-else-branch-clause-rat
 returns-else-branch-clause-rat g c = λ base h.
-    let clauses = (g.F.ClauseList.formula c.args.formula.now).clauses in
+    let clauses = (g.F.ClauseList.formula c.args.run.now.formula.now).clauses in
     let active = clause_at clauses c.args.active.now.clauses in
     let groups = groups_of c.args.hints.now in
     let pivot = c.index-clause-0.result in

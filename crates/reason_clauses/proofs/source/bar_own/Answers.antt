@@ -12,14 +12,14 @@ use Rattle.reason_clauses.proofs.source.bar_own.Goals as goal
 pub returns-clause-bars : goal.returns-clause-bars
 returns-clause-bars c =
     let none = c.if-own-eq0.false in
-    own_place_barred c.args.trace.now c.recall_invariant.ensures c.bar_process.new.orders.items c.args.reader c.args.pieces.now c.args.reader.process c.args.own c.stretches_of_one-s.result c.of_process-piece.result c.others.result
+    own_place_barred c.args.trace.now c.recall_invariant.ensures c.bar_process.new.orders.items c.args.reader.now.operation c.args.reader.now.pieces.now c.args.reader.now.operation.process c.args.own c.stretches_of_one-s.result c.of_process-piece.result c.others.result
     c.in_ok-bar_process.ensures.bars c.of_process-piece.ensures.listed c.others.ensures (omega (arith, none)) c.stretches_of_one-s.ensures.most (c.stretches_of_one-s.ensures.taken (omega (arith, none)))
 
 pub returns-clause-only : goal.returns-clause-only
 returns-clause-only c origin location d exact =
     let t = c.args.trace.now in
-    let r = c.args.reader in
-    let pieces = c.args.pieces.now in
+    let r = c.args.reader.now.operation in
+    let pieces = c.args.reader.now.pieces.now in
     let s = c.stretches_of_one-s.result in
     let piece = c.of_process-piece.result in
     let main = c.others.result in
@@ -30,8 +30,8 @@ returns-clause-only c origin location d exact =
 pub returns-in_err-bar_process-clause-refused : goal.returns-in_err-bar_process-clause-refused
 returns-in_err-bar_process-clause-refused c =
     let t = c.args.trace.now in
-    let r = c.args.reader in
-    let pieces = c.args.pieces.now in
+    let r = c.args.reader.now.operation in
+    let pieces = c.args.reader.now.pieces.now in
     let s = c.stretches_of_one-s.result in
     let piece = c.of_process-piece.result in
     let main = c.others.result in

@@ -9,5 +9,5 @@ use Rattle.reason_clauses.proofs.source.bar_runs.Given as goal
 abbrev pub invariant-loop-run : goal.invariant-loop-run
 invariant-loop-run l =
     Grows l.fn.orders.items l.orders.items
-    × AreRunsBarred l.trace l.orders.items l.reader l.origin l.own l.pieces (take l.run-index l.runs)
-    × ((location : List ℕ) (d : ℕ) → AreWholeRuns l.trace location d l.runs → IsOwnExact l.trace l.reader l.origin location d l.own → AddsOnly l.fn.orders.items l.orders.items (IsStretchOrder l.trace l.reader l.pieces l.origin location d))
+    × AreRunsBarred l.trace l.orders.items l.reader.operation l.reader.read.origin.now l.own l.reader.pieces.now (take l.run-index l.runs)
+    × ((location : List ℕ) (d : ℕ) → AreWholeRuns l.trace location d l.runs → IsOwnExact l.trace l.reader.operation l.reader.read.origin.now location d l.own → AddsOnly l.fn.orders.items l.orders.items (IsStretchOrder l.trace l.reader.operation l.reader.pieces.now l.reader.read.origin.now location d))

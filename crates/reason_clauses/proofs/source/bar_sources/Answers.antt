@@ -11,17 +11,17 @@ use Rattle.reason_clauses.proofs.source.bar_sources.Goals as goal
 
 pub returns-clause-bars : goal.returns-clause-bars
 returns-clause-bars c =
-    sources_by c.args.trace.now c.recall_invariant.ensures c.args.writers.now.by_value c.requires.by_value c.bar_runs.new.orders.items c.bar_start.new.orders.items c.args.reader c.args.origin.now c.own_source-own.result c.args.pieces.now c.args.location.now c.args.value
-    c.own_source-own.ensures.source (subst (λ l. AreRunsBarred c.args.trace.now c.bar_runs.new.orders.items c.args.reader c.args.origin.now c.own_source-own.result c.args.pieces.now l) c.runs-runs.ensures c.in_ok-bar_runs.ensures.bars) c.in_ok-bar_start.ensures.grows c.in_ok-bar_start.ensures.bars
+    sources_by c.args.trace.now c.recall_invariant.ensures c.args.writers.now.by_value c.requires.by_value c.bar_runs.new.orders.items c.bar_start.new.orders.items c.args.reader.now.operation c.args.reader.now.read.origin.now c.own_source-own.result c.args.reader.now.pieces.now c.args.reader.now.read.location.now c.args.reader.now.read.value
+    c.own_source-own.ensures.source (subst (λ l. AreRunsBarred c.args.trace.now c.bar_runs.new.orders.items c.args.reader.now.operation c.args.reader.now.read.origin.now c.own_source-own.result c.args.reader.now.pieces.now l) c.runs-runs.ensures c.in_ok-bar_runs.ensures.bars) c.in_ok-bar_start.ensures.grows c.in_ok-bar_start.ensures.bars
 
 pub returns-clause-only : goal.returns-clause-only
 returns-clause-only c =
     let t = c.args.trace.now in
-    let r = c.args.reader in
-    let pieces = c.args.pieces.now in
-    let origin = c.args.origin.now in
-    let location = c.args.location.now in
-    let d = c.args.value in
+    let r = c.args.reader.now.operation in
+    let pieces = c.args.reader.now.pieces.now in
+    let origin = c.args.reader.now.read.origin.now in
+    let location = c.args.reader.now.read.location.now in
+    let d = c.args.reader.now.read.value in
     let whole : AreWholeRuns t location d c.runs-runs.result.now =
     subst (λ (l : List Run). AreWholeRuns t location d l) (sym c.runs-runs.ensures) (whole_runs t c.recall_invariant.ensures c.args.writers.now.by_value c.requires.by_value c.requires.value_kind location d) in
     adds_both c.args.orders.now.items c.bar_runs.new.orders.items c.bar_start.new.orders.items (IsStretchOrder t r pieces origin location d) (IsInitialOrder t r pieces origin location d) (IsReaderOrder t r pieces origin location d) (λ o h. inl h) (λ o h. inr h)
@@ -30,11 +30,11 @@ returns-clause-only c =
 pub returns-in_err-bar_runs-clause-refused : goal.returns-in_err-bar_runs-clause-refused
 returns-in_err-bar_runs-clause-refused c =
     let t = c.args.trace.now in
-    let r = c.args.reader in
-    let pieces = c.args.pieces.now in
-    let origin = c.args.origin.now in
-    let location = c.args.location.now in
-    let d = c.args.value in
+    let r = c.args.reader.now.operation in
+    let pieces = c.args.reader.now.pieces.now in
+    let origin = c.args.reader.now.read.origin.now in
+    let location = c.args.reader.now.read.location.now in
+    let d = c.args.reader.now.read.value in
     let own = c.own_source-own.result in
     let whole : AreWholeRuns t location d c.runs-runs.result.now =
     subst (λ (l : List Run). AreWholeRuns t location d l) (sym c.runs-runs.ensures) (whole_runs t c.recall_invariant.ensures c.args.writers.now.by_value c.requires.by_value c.requires.value_kind location d) in

@@ -17,8 +17,8 @@ loop-run-init c = (grows_same c.args.orders.now.items, λ run listed. absurd (no
 pub loop-run-preserved : goal.loop-run-preserved
 loop-run-preserved c =
     let t = c.args.trace.now in
-    let location = c.args.location.now in
-    let pieces = c.args.pieces.now in
+    let location = c.args.end.now.location.now in
+    let pieces = c.args.end.now.pieces.now in
     let run = c.run-item.result in (
       grows_over c.args.orders.now.items c.loop-run.orders.items c.bar_taken_last.new.orders.items c.loop-run.invariant.0 c.in_ok-writes.ensures.grows,
       lasts_left_more t c.loop-run.orders.items c.bar_taken_last.new.orders.items c.loop-run.left.items c.bar_taken_last.new.left.items location pieces c.args.runs.now c.loop-run.run-index run c.loop-run-test.true (sym c.run-item.is) c.in_ok-writes.ensures.grows c.in_ok-writes.ensures.more c.loop-run.invariant.1 c.in_ok-writes.ensures.bars,
@@ -32,12 +32,12 @@ returns-clause-grows c = c.loop-run.invariant.0
 
 pub returns-clause-bars : goal.returns-clause-bars
 returns-clause-bars c =
-    subst (λ (l : List Run). AreLastRunsLeft c.args.trace.now c.loop-run.orders.items c.loop-run.left.items c.args.location.now c.args.pieces.now l) (take_all c.loop-run.run-index c.args.runs.now c.loop-run-test.false) c.loop-run.invariant.1
+    subst (λ (l : List Run). AreLastRunsLeft c.args.trace.now c.loop-run.orders.items c.loop-run.left.items c.args.end.now.location.now c.args.end.now.pieces.now l) (take_all c.loop-run.run-index c.args.runs.now c.loop-run-test.false) c.loop-run.invariant.1
 
 pub returns-clause-writes : goal.returns-clause-writes
 returns-clause-writes c =
     let t = c.args.trace.now in
-    let location = c.args.location.now in
+    let location = c.args.end.now.location.now in
     written_all t location c.args.runs.now c.loop-run.is_written c.requires.runs.all (subst (λ (l : List Run). IsWrittenOr c.loop-run.is_written t location l) (take_all c.loop-run.run-index c.args.runs.now c.loop-run-test.false) c.loop-run.invariant.2)
 
 pub returns-clause-only : goal.returns-clause-only
@@ -48,5 +48,5 @@ returns-clause-left c = c.loop-run.invariant.4
 
 pub returns-in_err-writes-clause-refused : goal.returns-in_err-writes-clause-refused
 returns-in_err-writes-clause-refused c =
-    let is = IsEndTakenRefused c.args.trace.now c.args.location.now c.args.pieces.now in
+    let is = IsEndTakenRefused c.args.trace.now c.args.end.now.location.now c.args.end.now.pieces.now in
     refusal_on is is c.from_residual.result c.in_err-writes.field-0.0 c.from_residual.ensures.1 (λ cause h. h) c.in_err-writes.ensures.refused

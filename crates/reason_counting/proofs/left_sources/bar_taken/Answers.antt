@@ -9,7 +9,7 @@ use Rattle.reason_counting.proofs.left_sources.bar_taken.Goals as goal
 
 pub returns-clause-only : goal.returns-clause-only
 returns-clause-only c =
-    let r = c.args.reader in
+    let r = c.args.reader.now.operation in
     let q = c.args.process in
     let s = c.args.s in
     adds_over c.args.orders.now.items c.args.orders.now.items c.bar_process.new.orders.items (λ o. IsTakenOrder r q (without_main s) c.args.witness o ⊎ IsRestOrder r q (without_main s) Plain o) (IsTakenOrder r q s c.args.witness) (taken_orders r q s c.args.witness) (λ o d. inl d) c.in_ok-bar_process.ensures.only

@@ -13,15 +13,15 @@ use Rattle.reason_counting.proofs.left_sources.bar_taken_own.Goals as goal
 pub returns-clause-bars : goal.returns-clause-bars
 returns-clause-bars c =
     let none = c.if-own-eq0.false in
-    own_place_left c.args.trace.now c.recall_invariant.ensures c.bar_taken.new.orders.items c.bar_taken.new.left.items c.args.value c.args.reader c.args.pieces.now c.args.reader.process c.args.own c.stretches_of_one-s.result c.of_process-piece.result
+    own_place_left c.args.trace.now c.recall_invariant.ensures c.bar_taken.new.orders.items c.bar_taken.new.left.items c.args.reader.now.read.value c.args.reader.now.operation c.args.reader.now.pieces.now c.args.reader.now.operation.process c.args.own c.stretches_of_one-s.result c.of_process-piece.result
     c.in_ok-bar_taken.ensures.bars c.of_process-piece.ensures.listed c.in_ok-bar_taken.ensures.kept (omega (arith, none)) c.stretches_of_one-s.ensures.most (c.stretches_of_one-s.ensures.taken (omega (arith, none)))
 
 pub returns-clause-only : goal.returns-clause-only
 returns-clause-only c origin location may =
     let t = c.args.trace.now in
-    let r = c.args.reader in
-    let d = c.args.value in
-    let pieces = c.args.pieces.now in
+    let r = c.args.reader.now.operation in
+    let d = c.args.reader.now.read.value in
+    let pieces = c.args.reader.now.pieces.now in
     let piece = c.of_process-piece.result in
     let s = c.stretches_of_one-s.result in
     let source : IsPossibleSource t r origin location d (at_number r.process c.args.own) = own_there t r origin location d c.args.own c.if-own-eq0.false may in
@@ -31,9 +31,9 @@ returns-clause-only c origin location may =
 pub returns-in_err-bar_taken-clause-refused : goal.returns-in_err-bar_taken-clause-refused
 returns-in_err-bar_taken-clause-refused c =
     let t = c.args.trace.now in
-    let r = c.args.reader in
-    let d = c.args.value in
-    let pieces = c.args.pieces.now in
+    let r = c.args.reader.now.operation in
+    let d = c.args.reader.now.read.value in
+    let pieces = c.args.reader.now.pieces.now in
     let piece = c.of_process-piece.result in
     let s = c.stretches_of_one-s.result in
     refusal_on (IsTakenRefused r.process s piece.witness) (λ cause. (origin : Origin) (location : List ℕ) → IsOwnExact t r origin location d c.args.own → IsPartlyRefused t r pieces origin location d cause) c.from_residual.result c.in_err-bar_taken.field-0.0 c.from_residual.ensures.1

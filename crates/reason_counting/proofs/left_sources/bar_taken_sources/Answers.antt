@@ -17,17 +17,17 @@ returns-clause-grows c = grows_over c.args.orders.now.items c.bar_taken_runs.new
 
 pub returns-clause-bars : goal.returns-clause-bars
 returns-clause-bars c =
-    sources_left_by c.args.trace.now c.recall_invariant.ensures c.args.writers.now.by_value c.requires.by_value c.bar_taken_runs.new.orders.items c.bar_taken_start.new.orders.items c.bar_taken_runs.new.left.items c.args.reader c.args.origin.now c.own_source-own.result c.args.pieces.now c.args.location.now c.args.value c.own_source-own.ensures.source
-    (subst (λ l. AreRunsLeft c.args.trace.now c.bar_taken_runs.new.orders.items c.bar_taken_runs.new.left.items c.args.value c.args.reader c.args.origin.now c.own_source-own.result c.args.pieces.now l) c.runs-runs.ensures c.in_ok-bar_taken_runs.ensures.bars) c.in_ok-is_left.ensures.grows c.in_ok-is_left.is_left c.in_ok-is_left.ensures.bars
+    sources_left_by c.args.trace.now c.recall_invariant.ensures c.args.writers.now.by_value c.requires.by_value c.bar_taken_runs.new.orders.items c.bar_taken_start.new.orders.items c.bar_taken_runs.new.left.items c.args.reader.now.operation c.args.reader.now.read.origin.now c.own_source-own.result c.args.reader.now.pieces.now c.args.reader.now.read.location.now c.args.reader.now.read.value c.own_source-own.ensures.source
+    (subst (λ l. AreRunsLeft c.args.trace.now c.bar_taken_runs.new.orders.items c.bar_taken_runs.new.left.items c.args.reader.now.read.value c.args.reader.now.operation c.args.reader.now.read.origin.now c.own_source-own.result c.args.reader.now.pieces.now l) c.runs-runs.ensures c.in_ok-bar_taken_runs.ensures.bars) c.in_ok-is_left.ensures.grows c.in_ok-is_left.is_left c.in_ok-is_left.ensures.bars
 
 pub returns-clause-only : goal.returns-clause-only
 returns-clause-only c =
     let t = c.args.trace.now in
-    let r = c.args.reader in
-    let d = c.args.value in
-    let pieces = c.args.pieces.now in
-    let origin = c.args.origin.now in
-    let location = c.args.location.now in
+    let r = c.args.reader.now.operation in
+    let d = c.args.reader.now.read.value in
+    let pieces = c.args.reader.now.pieces.now in
+    let origin = c.args.reader.now.read.origin.now in
+    let location = c.args.reader.now.read.location.now in
     let whole : AreWholeRuns t location d c.runs-runs.result.now =
     subst (λ (l : List Run). AreWholeRuns t location d l) (sym c.runs-runs.ensures) (whole_runs t c.recall_invariant.ensures c.args.writers.now.by_value c.requires.by_value c.requires.value_kind location d) in
     let exact : IsOwnExact t r origin location d c.own_source-own.result = c.own_source-own.ensures.exact in
@@ -40,11 +40,11 @@ returns-clause-only c =
 pub returns-clause-stretches : goal.returns-clause-stretches
 returns-clause-stretches c =
     let t = c.args.trace.now in
-    let r = c.args.reader in
-    let d = c.args.value in
-    let pieces = c.args.pieces.now in
-    let origin = c.args.origin.now in
-    let location = c.args.location.now in
+    let r = c.args.reader.now.operation in
+    let d = c.args.reader.now.read.value in
+    let pieces = c.args.reader.now.pieces.now in
+    let origin = c.args.reader.now.read.origin.now in
+    let location = c.args.reader.now.read.location.now in
     let whole : AreWholeRuns t location d c.runs-runs.result.now =
     subst (λ (l : List Run). AreWholeRuns t location d l) (sym c.runs-runs.ensures) (whole_runs t c.recall_invariant.ensures c.args.writers.now.by_value c.requires.by_value c.requires.value_kind location d) in
     let exact : IsOwnExact t r origin location d c.own_source-own.result = c.own_source-own.ensures.exact in
@@ -53,11 +53,11 @@ returns-clause-stretches c =
 pub returns-in_err-bar_taken_runs-clause-refused : goal.returns-in_err-bar_taken_runs-clause-refused
 returns-in_err-bar_taken_runs-clause-refused c =
     let t = c.args.trace.now in
-    let r = c.args.reader in
-    let d = c.args.value in
-    let pieces = c.args.pieces.now in
-    let origin = c.args.origin.now in
-    let location = c.args.location.now in
+    let r = c.args.reader.now.operation in
+    let d = c.args.reader.now.read.value in
+    let pieces = c.args.reader.now.pieces.now in
+    let origin = c.args.reader.now.read.origin.now in
+    let location = c.args.reader.now.read.location.now in
     let whole : AreWholeRuns t location d c.runs-runs.result.now =
     subst (λ (l : List Run). AreWholeRuns t location d l) (sym c.runs-runs.ensures) (whole_runs t c.recall_invariant.ensures c.args.writers.now.by_value c.requires.by_value c.requires.value_kind location d) in
     let exact : IsOwnExact t r origin location d c.own_source-own.result = c.own_source-own.ensures.exact in
