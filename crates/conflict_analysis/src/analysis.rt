@@ -10,7 +10,7 @@ use crate::way_search::{WayQuestion, WaySearch};
 use closed_rows::OrderedPair;
 use numbered_log::{NO_NUMBER, NOBODY, OperationId};
 use order_propagation::{Conflict, Propagation};
-use possible_sources::Time;
+use possible_sources::{EarlierSources, Time};
 use std::alloc::{AllocError, Global};
 use total_tables::{at, put, size};
 
@@ -63,10 +63,8 @@ pub struct Analysis {
     top: u32,
     left_at_top: u32,
     literals: Vec<Literal>,
-    /// The reader's sources at a time, of each interval: where it begins and ends. Both are positions among the writers of `ValueClasses`, and
-    /// `ask_sources` sets them.
-    pub(crate) lows: Vec<u32>,
-    pub(crate) highs: Vec<u32>,
+    /// The sources that the reader had left, as `ask_sources` found them last.
+    pub(crate) earlier: EarlierSources,
     /// Whether pairs of no decision are asked for too, for a core.
     pub(crate) asks_all: bool,
     /// For each operation whether it was named, and those that were.
@@ -97,8 +95,7 @@ impl Drop for Analysis {
             top: _,
             left_at_top: _,
             literals: _literals,
-            lows: _lows,
-            highs: _highs,
+            earlier: _earlier,
             asks_all: _,
             is_named: _is_named,
             named: _named,
@@ -125,8 +122,7 @@ impl Analysis {
             top: 0,
             left_at_top: 0,
             literals: Vec::new(alloc),
-            lows: Vec::new(alloc),
-            highs: Vec::new(alloc),
+            earlier: EarlierSources::new(alloc),
             asks_all: false,
             is_named: vec![in alloc; false; operations as usize]?,
             named: Vec::new(alloc),

@@ -8,19 +8,10 @@ use std::alloc::{AllocError, Global};
 
 /// The clauses that walks over one order have learned, and what each rests on. A pair that a clause has left names it by its number, so walks
 /// that stand on the same pairs share one list.
+#[derive(Drop)]
 pub struct Learning {
     pub clauses: LearnedClauses,
     pub analysis: Analysis,
-}
-
-/// Drops both in one call. A derived `Drop` would drop each at every exit of a function that owns them, which makes its proof longer.
-impl Drop for Learning {
-    fn drop(self) {
-        let Learning {
-            clauses: _clauses,
-            analysis: _analysis,
-        } = self;
-    }
 }
 
 impl Learning {

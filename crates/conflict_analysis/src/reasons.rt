@@ -2,17 +2,14 @@
 //!
 //! To ask why one operation stands before another is to mark the older pairs that lead from the first to the second, as pairs that the conflict rests on. An
 //! operation is named if the conflict rests on it, be it an end of such a pair or not; a core has the operations that are named.
-//!
-//! Past the end of a table `at` reads as its last argument, and `put` does nothing; so arithmetic may wrap, and a wrong place makes no fault.
 
 use crate::analysis::Analysis;
 use crate::learned_clauses::LearnedClauses;
 use closed_rows::{OrderedPair, PairReason};
-use numbered_log::{LocationId, NO_NUMBER, OperationId};
+use numbered_log::{LocationId, NOBODY, OperationId};
 use order_propagation::Propagation;
 use possible_sources::Time;
 use std::alloc::AllocError;
-use total_tables::{at, size};
 
 impl Analysis {
     /// Asks why the pair was added.
@@ -46,14 +43,11 @@ impl Analysis {
         pair: OrderedPair,
     ) -> Result<(), AllocError> {
         self.ask_sources(order, reader, pair.time)?;
-        for run in 0..size(self.lows.as_slice()) {
-            let low = at(self.lows.as_slice(), run, 0);
-            if low < at(self.highs.as_slice(), run, 0) {
-                // The first source that was left stands before the others of its interval, so it is enough to ask for it.
-                let source = order.classes().writer(low);
-                if source != pair.first {
-                    self.ask(order, pair.first, source, pair.time)?;
-                }
+        for run in 0..self.earlier.intervals() {
+            // The first source that was left stands before the others of its interval, so it is enough to ask for it.
+            let source = self.earlier.first(order.classes(), run);
+            if source != NOBODY && source != pair.first {
+                self.ask(order, pair.first, source, pair.time)?;
             }
         }
         Ok(())
@@ -67,11 +61,10 @@ impl Analysis {
         pair: OrderedPair,
     ) -> Result<(), AllocError> {
         self.ask_sources(order, reader, pair.time)?;
-        for run in 0..size(self.lows.as_slice()) {
-            let high = at(self.highs.as_slice(), run, 0);
-            if at(self.lows.as_slice(), run, 0) < high {
-                // The last source that was left stands behind the others of its interval.
-                let source = order.classes().writer(high.wrapping_sub(1));
+        for run in 0..self.earlier.intervals() {
+            // The last source that was left stands behind the others of its interval.
+            let source = self.earlier.last(order.classes(), run);
+            if source != NOBODY {
                 self.ask(order, source, pair.second, pair.time)?;
             }
         }
@@ -95,8 +88,8 @@ impl Analysis {
         Ok(())
     }
 
-    /// Asks why the reader lost the sources that it had lost at this time, and notes those that it had left. These are in `lows` and `highs` afterwards,
-    /// until the next call, for each interval from one position up to another, which is not one of them.
+    /// Asks why the reader lost the sources that it had lost at this time, and notes those that it had left. These are in `earlier` afterwards, until the
+    /// next call.
     pub fn ask_sources(
         &mut self,
         order: &Propagation<'_>,
@@ -107,21 +100,12 @@ impl Analysis {
         if order.log().is_final(reader) {
             self.name_last_writer(order, order.log().final_location(reader))?;
         }
-        self.lows.clear();
-        self.highs.clear();
+        self.earlier.clear();
         for run in 0..order.sources().intervals(reader) {
-            let low = self.ask_hidden(order, reader, run, time)?;
-            self.lows.push(low)?;
-            let high = self.ask_late(order, reader, run, time)?;
-            self.highs.push(high)?;
-            if order.log().is_final(reader) && low < high {
-                self.name(order.classes().writer(low))?;
-            }
+            self.ask_interval(order, reader, run, time)?;
         }
-        let lost = order.sources().initial_loss(reader);
-        if lost != NO_NUMBER && order.sources().had_initial(reader) {
-            let cause = order.sources().loss(lost).cause;
-            if cause.time.is_before(time) {
+        if order.sources().had_initial(reader) {
+            if let Some(cause) = order.sources().initial_loss_at(reader, time) {
                 self.name(cause.witness)?;
                 self.ask(order, cause.witness, reader, cause.time)?;
             }
@@ -145,66 +129,32 @@ impl Analysis {
         Ok(())
     }
 
-    /// Asks why the first sources of the interval are hidden. Returns where the interval began at the time. Losses at one end of an interval are a list,
-    /// the last first: each that is not older than the time is undone on the way. The first that is older says why all before the bound are hidden, so its
-    /// cause alone is asked for.
-    fn ask_hidden(
+    /// Asks why the first sources of the interval are hidden and its last ones come too late, and notes what was left of it.
+    fn ask_interval(
         &mut self,
         order: &Propagation<'_>,
         reader: OperationId,
         run: u32,
         time: Time,
-    ) -> Result<u32, AllocError> {
-        let sources = order.sources();
-        let mut low = sources.low(reader, run);
-        let mut number = sources.last_hidden(sources.interval(reader, run));
-        for _ in 0..sources.losses() {
-            if number == NO_NUMBER {
-                break;
+    ) -> Result<(), AllocError> {
+        let low = order.sources().low_at(reader, run, time);
+        if let Some(cause) = low.cause {
+            self.name(cause.writer)?;
+            self.name(cause.witness)?;
+            self.ask(order, cause.writer, cause.witness, cause.time)?;
+            if !order.log().is_final(reader) {
+                self.ask(order, cause.witness, reader, cause.time)?;
             }
-            let loss = sources.loss(number);
-            let cause = loss.cause;
-            if cause.time.is_before(time) {
-                self.name(cause.writer)?;
-                self.name(cause.witness)?;
-                self.ask(order, cause.writer, cause.witness, cause.time)?;
-                if !order.log().is_final(reader) {
-                    self.ask(order, cause.witness, reader, cause.time)?;
-                }
-                break;
-            }
-            low = loss.old_bound;
-            number = loss.previous;
         }
-        Ok(low)
-    }
-
-    /// Asks why the last sources of the interval come too late. Returns where the interval ended at the time. Losses are gone over as in `ask_hidden`: a
-    /// reader that stands before the first writer that was lost stands before those behind it, too.
-    fn ask_late(
-        &mut self,
-        order: &Propagation<'_>,
-        reader: OperationId,
-        run: u32,
-        time: Time,
-    ) -> Result<u32, AllocError> {
-        let sources = order.sources();
-        let mut high = sources.high(reader, run);
-        let mut number = sources.last_late(sources.interval(reader, run));
-        for _ in 0..sources.losses() {
-            if number == NO_NUMBER {
-                break;
-            }
-            let loss = sources.loss(number);
-            let cause = loss.cause;
-            if cause.time.is_before(time) {
-                self.name(cause.writer)?;
-                self.ask(order, reader, cause.writer, cause.time)?;
-                break;
-            }
-            high = loss.old_bound;
-            number = loss.previous;
+        let high = order.sources().high_at(reader, run, time);
+        if let Some(cause) = high.cause {
+            self.name(cause.writer)?;
+            // A reader that stands before the first writer that was lost stands before those behind it, too.
+            self.ask(order, reader, cause.writer, cause.time)?;
         }
-        Ok(high)
+        if order.log().is_final(reader) && low.position < high.position {
+            self.name(order.classes().writer(low.position))?;
+        }
+        self.earlier.add(low.position, high.position)
     }
 }

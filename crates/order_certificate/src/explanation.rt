@@ -12,7 +12,7 @@ use crate::stuck_heads::StuckHeads;
 use conflict_analysis::{LearnedClauses, Literal, WayQuestion, WaySearch, pairs_of_cycle};
 use numbered_log::{NO_NUMBER, NOBODY, OperationId};
 use order_propagation::{Conflict, Propagation};
-use possible_sources::Time;
+use possible_sources::{EarlierSources, Time};
 use std::alloc::{AllocError, Global};
 use total_tables::{at, size};
 
@@ -52,10 +52,8 @@ pub(crate) struct Explanation {
     pub(crate) clause_steps: Vec<u32>,
     /// Whether each pair of no decision has a step of its own, since many clauses rest on it.
     pub(crate) has_units: bool,
-    /// The reader's sources at a time, of each interval: where it begins and ends. Both are positions among the writers of `ValueClasses`, as `add_pieces`
-    /// found them last.
-    pub(crate) lows: Vec<u32>,
-    pub(crate) highs: Vec<u32>,
+    /// The sources that the reader had left, as `add_pieces` found them last.
+    pub(crate) earlier: EarlierSources,
     /// Whether something has no line. Then the conflict at hand has no step.
     pub(crate) is_lost: bool,
     /// Pairs looked at by `ask_reasons` that are not taken out of the budget yet.
@@ -77,8 +75,7 @@ impl Drop for Explanation {
             fact_numbers: _fact_numbers,
             clause_steps: _clause_steps,
             has_units: _,
-            lows: _lows,
-            highs: _highs,
+            earlier: _earlier,
             is_lost: _,
             looked: _,
         } = self;
@@ -104,8 +101,7 @@ impl Explanation {
             fact_numbers: Vec::new(alloc),
             clause_steps: Vec::new(alloc),
             has_units,
-            lows: Vec::new(alloc),
-            highs: Vec::new(alloc),
+            earlier: EarlierSources::new(alloc),
             is_lost: false,
             looked: 0,
         })

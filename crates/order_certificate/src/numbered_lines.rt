@@ -14,6 +14,7 @@ const MOST_WORDS: u32 = 1 << 23;
 const FIRST_SLOTS: u32 = 1 << 10;
 
 /// The lines, one behind the other, and the words of one that is not finished.
+#[derive(Drop)]
 pub(crate) struct NumberedLines {
     alloc: Global,
     words: Vec<ReasonWord>,
@@ -22,18 +23,6 @@ pub(crate) struct NumberedLines {
     ends: Vec<u32>,
     /// A line for each slot that is taken, else `NO_NUMBER`.
     slots: Vec<u32>,
-}
-
-/// Drops each table in one call. A derived `Drop` would drop each at every exit of a function that owns lines, which makes its proof longer.
-impl Drop for NumberedLines {
-    fn drop(self) {
-        let NumberedLines {
-            alloc: _,
-            words: _words,
-            ends: _ends,
-            slots: _slots,
-        } = self;
-    }
 }
 
 /// A number for the word, to be mixed. Words of one kind begin far from those of another, so that few share a number; which words are equal, `are_equal` says.

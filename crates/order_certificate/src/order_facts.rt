@@ -42,24 +42,13 @@ struct FoundFact {
 const KEPT_FACTS: u32 = 1 << 14;
 
 /// The facts of one explanation.
+#[derive(Drop)]
 pub(crate) struct OrderFacts {
     facts: Vec<OrderFact>,
     /// The pairs of all ways.
     ways: Vec<u32>,
     found: Vec<FoundFact>,
     turn: u32,
-}
-
-/// Drops each table in one call. A derived `Drop` would drop each at every exit of a function that owns facts, which makes its proof longer.
-impl Drop for OrderFacts {
-    fn drop(self) {
-        let OrderFacts {
-            facts: _facts,
-            ways: _ways,
-            found: _found,
-            turn: _,
-        } = self;
-    }
 }
 
 /// The slot in which a fact of these two operations is kept, whatever its time. The factors are odd numbers that scatter neighbours.

@@ -7,7 +7,7 @@ use conflict_analysis::LearnedClauses;
 use numbered_log::{NO_NUMBER, NOBODY, OperationId};
 use order_propagation::Propagation;
 use std::alloc::AllocError;
-use total_tables::{at, size};
+use total_tables::at;
 
 impl Explanation {
     /// Returns whether nothing has to be derived of the pair: it was decided, or program order has it.
@@ -78,9 +78,9 @@ impl Explanation {
         pair: OrderedPair,
     ) -> Result<Option<DerivationHint>, AllocError> {
         self.begin_sources(order, reader, pair.time)?;
-        for run in 0..size(self.lows.as_slice()) {
+        for run in 0..self.earlier.intervals() {
             // The first source that was left stands before the others of its interval, so it is enough to ask for it; likewise the last one in `ask_after`.
-            let source = self.first_left(order, run);
+            let source = self.earlier.first(order.classes(), run);
             if source != NOBODY && source != pair.first {
                 self.ask(order, pair.first, source, pair.time)?;
             }
@@ -96,8 +96,8 @@ impl Explanation {
         pair: OrderedPair,
     ) -> Result<Option<DerivationHint>, AllocError> {
         self.begin_sources(order, reader, pair.time)?;
-        for run in 0..size(self.lows.as_slice()) {
-            let source = self.last_left(order, run);
+        for run in 0..self.earlier.intervals() {
+            let source = self.earlier.last(order.classes(), run);
             if source != NOBODY {
                 self.ask(order, source, pair.second, pair.time)?;
             }

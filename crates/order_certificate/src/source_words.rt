@@ -1,40 +1,10 @@
 //! Lines that a reader has a source, with the pieces that say of each lost source why it is none.
-//!
-//! Past the end of a table `at` reads as its last argument, and `put` does nothing; so arithmetic may wrap, and a wrong place makes no fault.
 
 use crate::explanation::Explanation;
-use numbered_log::{NO_NUMBER, NOBODY, NumberedLog, NumberedOrigin, OperationId, ProcessPlace};
+use numbered_log::{NOBODY, NumberedLog, NumberedOrigin, OperationId, ProcessPlace};
 use order_propagation::Propagation;
-use possible_sources::{LossCause, Time};
+use possible_sources::Time;
 use std::alloc::AllocError;
-use total_tables::at;
-
-/// The sources of an interval at a time: its bound then, and the cause of the last loss at that bound before it, if there is one.
-#[derive(Clone, Copy)]
-struct BoundAt {
-    bound: u32,
-    cause: Option<LossCause>,
-}
-
-/// The bound at a time of which this is the last one, with this last loss. Losses at one end are a list, the last first, so each that is not older than the
-/// time is undone on the way.
-fn bound_at(order: &Propagation<'_>, last_bound: u32, last_loss: u32, time: Time) -> BoundAt {
-    let mut bound = last_bound;
-    let mut number = last_loss;
-    for _ in 0..order.sources().losses() {
-        if number == NO_NUMBER {
-            break;
-        }
-        let loss = order.sources().loss(number);
-        if loss.cause.time.is_before(time) {
-            let cause = Some(loss.cause);
-            return BoundAt { bound, cause };
-        }
-        bound = loss.old_bound;
-        number = loss.previous;
-    }
-    BoundAt { bound, cause: None }
-}
 
 /// Returns whether the reading operation may read the initial value by the trace's values and origins alone.
 fn wants_initial(log: &NumberedLog, reader: OperationId) -> bool {
@@ -85,8 +55,7 @@ impl Explanation {
         reader: OperationId,
         time: Time,
     ) -> Result<(), AllocError> {
-        self.lows.clear();
-        self.highs.clear();
+        self.earlier.clear();
         for run in 0..order.sources().intervals(reader) {
             self.add_interval(order, reader, run, time)?;
         }
@@ -104,14 +73,7 @@ impl Explanation {
         run: u32,
         time: Time,
     ) -> Result<(), AllocError> {
-        let sources = order.sources();
-        let interval = sources.interval(reader, run);
-        let hidden = bound_at(
-            order,
-            sources.low(reader, run),
-            sources.last_hidden(interval),
-            time,
-        );
+        let hidden = order.sources().low_at(reader, run, time);
         if let Some(cause) = hidden.cause {
             self.lines.letter(b'h')?;
             self.lines.operation(cause.witness)?;
@@ -121,20 +83,13 @@ impl Explanation {
                 self.ask(order, cause.witness, reader, cause.time)?;
             }
         }
-        let late = bound_at(
-            order,
-            sources.high(reader, run),
-            sources.last_late(interval),
-            time,
-        );
+        let late = order.sources().high_at(reader, run, time);
         if let Some(cause) = late.cause {
             self.lines.letter(b'f')?;
             self.lines.operation(cause.writer)?;
             self.ask(order, reader, cause.writer, cause.time)?;
         }
-        self.lows.push(hidden.bound)?;
-        self.highs.push(late.bound)?;
-        Ok(())
+        self.earlier.add(hidden.position, late.position)
     }
 
     /// Adds the piece for the initial value, if the reader had lost it.
@@ -151,13 +106,9 @@ impl Explanation {
             let writer = own_writer(order.log(), reader);
             return self.add_hidden_initial(writer);
         }
-        let lost = order.sources().initial_loss(reader);
-        if lost != NO_NUMBER {
-            let cause = order.sources().loss(lost).cause;
-            if cause.time.is_before(time) {
-                self.ask(order, cause.witness, reader, cause.time)?;
-                return self.add_hidden_initial(cause.witness);
-            }
+        if let Some(cause) = order.sources().initial_loss_at(reader, time) {
+            self.ask(order, cause.witness, reader, cause.time)?;
+            return self.add_hidden_initial(cause.witness);
         }
         Ok(())
     }
@@ -167,25 +118,5 @@ impl Explanation {
         self.is_lost |= witness == NOBODY;
         self.lines.letter(b'i')?;
         self.lines.operation(witness)
-    }
-
-    /// The first source of the interval that was left, or `NOBODY`.
-    pub(crate) fn first_left(&self, order: &Propagation<'_>, run: u32) -> OperationId {
-        let low = at(self.lows.as_slice(), run, 0);
-        if low < at(self.highs.as_slice(), run, 0) {
-            order.classes().writer(low)
-        } else {
-            NOBODY
-        }
-    }
-
-    /// The last source of the interval that was left, or `NOBODY`.
-    pub(crate) fn last_left(&self, order: &Propagation<'_>, run: u32) -> OperationId {
-        let high = at(self.highs.as_slice(), run, 0);
-        if at(self.lows.as_slice(), run, 0) < high {
-            order.classes().writer(high.wrapping_sub(1))
-        } else {
-            NOBODY
-        }
     }
 }

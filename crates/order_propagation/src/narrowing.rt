@@ -11,7 +11,7 @@ use crate::propagation::Propagation;
 use numbered_log::{NOBODY, OperationId, ProcessId, ProcessPlace};
 use possible_sources::LossCause;
 use std::alloc::AllocError;
-use total_tables::at;
+use total_tables::{at, first_place};
 
 impl<'a> Propagation<'a> {
     /// Takes from the reading operation the sources that are hidden or stand after it. The count is set at the end, since each loss notes the count
@@ -121,22 +121,8 @@ impl<'a> Propagation<'a> {
         self.log.operation(self.classes.writer(position)).place
     }
 
-    /// The first position, from one up to another of a run, whose writer stands behind this place, or the end. Positions have 32 bits, so 32
-    /// halvings are enough.
+    /// The first position, from one up to another of a run, whose writer stands behind this place, or the end.
     fn first_behind(&self, begin: u32, end: u32, place: ProcessPlace) -> u32 {
-        let mut low = begin;
-        let mut high = end;
-        for _ in 0..32 {
-            if low >= high {
-                break;
-            }
-            let middle = low.wrapping_add(high.wrapping_sub(low) / 2);
-            if self.place_at(middle) <= place {
-                low = middle.wrapping_add(1);
-            } else {
-                high = middle;
-            }
-        }
-        low
+        first_place(begin, end, |position| self.place_at(position) > place)
     }
 }

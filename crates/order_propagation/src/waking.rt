@@ -5,7 +5,7 @@
 
 use crate::propagation::Propagation;
 use numbered_log::{NOBODY, Operation, OperationId, ProcessId};
-use total_tables::at;
+use total_tables::{at, first_place};
 
 /// The number of readers of a class up to which all are looked at. Among more it is sooner to look for those that are concerned, by halves.
 const FEW_READERS: u32 = 24;
@@ -147,20 +147,9 @@ impl<'a> Propagation<'a> {
     /// The first position, from one up to another, whose reader has no source before the writer in its run, or the end. `own` is the position of the
     /// writer.
     fn first_low(&self, begin: u32, end: u32, writer: OperationId, own: u32) -> u32 {
-        let mut low = begin;
-        let mut high = end;
-        for _ in 0..32 {
-            if low >= high {
-                break;
-            }
-            let middle = low.wrapping_add(high.wrapping_sub(low) / 2);
-            if self.ends_at(middle, writer).0 < own {
-                low = middle.wrapping_add(1);
-            } else {
-                high = middle;
-            }
-        }
-        low
+        first_place(begin, end, |position| {
+            self.ends_at(position, writer).0 >= own
+        })
     }
 
     /// The ends of the interval in which the writer may stand, of the reader at this position. The upper one is behind its last source.

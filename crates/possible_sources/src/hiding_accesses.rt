@@ -2,7 +2,7 @@
 
 use numbered_log::{LocationId, NumberedLog, OperationId, ProcessId, ProcessPlace};
 use std::alloc::{AllocError, Global};
-use total_tables::{at, put, sum_up};
+use total_tables::{at, first_place, put, sum_up};
 
 /// For each process and location the places of the accesses that can hide a source, rising: writers, and plain reads that have several
 /// possible sources. What such a read of another value reads was written in between. A plain read of one source hides no more than what
@@ -136,24 +136,12 @@ impl HidingAccesses {
         at(self.values.as_slice(), entry, None)
     }
 
-    /// The first entry, from one up to another, that has this place or a later one, or the end. Entries are numbered by 32 bits, so 32
-    /// halvings are enough.
+    /// The first entry, from one up to another, that has this place or a later one, or the end.
     #[inline(always)]
     fn first_from(&self, begin: u32, end: u32, place: ProcessPlace) -> u32 {
-        let mut low = begin;
-        let mut high = end;
-        for _ in 0..32 {
-            if low >= high {
-                break;
-            }
-            let middle = low.wrapping_add(high.wrapping_sub(low) / 2);
-            if at(self.places.as_slice(), middle, ProcessPlace::START) < place {
-                low = middle.wrapping_add(1);
-            } else {
-                high = middle;
-            }
-        }
-        low
+        first_place(begin, end, |entry| {
+            at(self.places.as_slice(), entry, ProcessPlace::START) >= place
+        })
     }
 
     /// The place of the process's last access of the location up to this place that is no plain read of the value, or `START`.

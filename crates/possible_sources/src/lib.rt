@@ -4,12 +4,14 @@
 //! reads a fixed value.
 #![tactic(auto)]
 
+mod earlier_sources;
 mod hiding_accesses;
 mod reader_classes;
 mod source_intervals;
 mod time;
 mod value_classes;
 
+pub use earlier_sources::{EarlierBound, EarlierSources};
 pub use hiding_accesses::HidingAccesses;
 pub use reader_classes::ReaderClasses;
 pub use source_intervals::{INITIAL_VALUE, LossCause, LostBound, SourceIntervals, SourceLoss};

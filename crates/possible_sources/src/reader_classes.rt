@@ -3,7 +3,7 @@
 use crate::value_classes::{ClassId, ValueClasses};
 use numbered_log::{NOBODY, NumberedLog, OperationId};
 use std::alloc::{AllocError, Global};
-use total_tables::{at, put, sum_up};
+use total_tables::{at, first_place, put, sum_up};
 
 /// The reading operations of each class of writers, by rising numbers, so by process and place.
 #[derive(Drop)]
@@ -73,23 +73,9 @@ impl ReaderClasses {
         at(self.readers.as_slice(), position, NOBODY)
     }
 
-    /// The first position, from one up to another, whose reader has this number or a larger one, or the end. Positions have 32 bits, so 32 halvings
-    /// are enough.
+    /// The first position, from one up to another, whose reader has this number or a larger one, or the end.
     #[inline(always)]
     pub fn first_from(&self, begin: u32, end: u32, number: OperationId) -> u32 {
-        let mut low = begin;
-        let mut high = end;
-        for _ in 0..32 {
-            if low >= high {
-                break;
-            }
-            let middle = low.wrapping_add(high.wrapping_sub(low) / 2);
-            if self.reader(middle) < number {
-                low = middle.wrapping_add(1);
-            } else {
-                high = middle;
-            }
-        }
-        low
+        first_place(begin, end, |position| self.reader(position) >= number)
     }
 }

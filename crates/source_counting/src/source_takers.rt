@@ -10,21 +10,12 @@ use total_tables::{at, put, sum_up};
 /// The last writers of each location, one for each process.
 ///
 /// One of them is the last of all, and no update reads it.
+#[derive(Drop)]
 pub(crate) struct LastInProcess {
     /// For each location where its writers begin, and where all end.
     begins: Vec<u32>,
     /// By location, and at one location by rising numbers.
     writers: Vec<OperationId>,
-}
-
-/// Drops both tables in one call. A derived `Drop` would drop each at every exit of a function that owns them, which makes its proof longer.
-impl Drop for LastInProcess {
-    fn drop(self) {
-        let LastInProcess {
-            begins: _begins,
-            writers: _writers,
-        } = self;
-    }
 }
 
 impl LastInProcess {

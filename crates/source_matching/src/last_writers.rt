@@ -39,22 +39,36 @@ pub fn location_word(known: KnownOrder<'_>, writer: u32, number: u32) -> u64 {
     }
 }
 
+/// Returns the writers of this one's location, itself among them, by rising numbers.
+fn writers_of_location(
+    alloc: Global,
+    known: KnownOrder<'_>,
+    writer: u32,
+) -> Result<Vec<u32>, AllocError> {
+    let mut writers = Vec::new(alloc);
+    for number in 0..known.writers.words() {
+        let mut word = location_word(known, writer, number);
+        for _ in 0..64 {
+            let Some(other) = next_element(&mut word, number) else {
+                break;
+            };
+            writers.push(other)?;
+        }
+    }
+    Ok(writers)
+}
+
 /// Returns those writers of this one's location that may be the last one.
 pub fn candidates_of(
     alloc: Global,
     known: KnownOrder<'_>,
     writer: u32,
 ) -> Result<Vec<u32>, AllocError> {
+    let writers = writers_of_location(alloc, known, writer)?;
     let mut candidates = Vec::new(alloc);
-    for number in 0..known.writers.words() {
-        let mut word = location_word(known, writer, number);
-        for _ in 0..64 {
-            let Some(candidate) = next_element(&mut word, number) else {
-                break;
-            };
-            if may_be_last(known, candidate) {
-                candidates.push(candidate)?;
-            }
+    for candidate in &writers {
+        if may_be_last(known, *candidate) {
+            candidates.push(*candidate)?;
         }
     }
     Ok(candidates)
@@ -68,16 +82,7 @@ impl LastWriters {
         writer: u32,
         candidates: Vec<u32>,
     ) -> Result<LastWriters, AllocError> {
-        let mut writers = Vec::new(alloc);
-        for number in 0..known.writers.words() {
-            let mut word = location_word(known, writer, number);
-            for _ in 0..64 {
-                let Some(operation) = next_element(&mut word, number) else {
-                    break;
-                };
-                writers.push(operation)?;
-            }
-        }
+        let writers = writers_of_location(alloc, known, writer)?;
         Ok(LastWriters {
             writers,
             candidates,

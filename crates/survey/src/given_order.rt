@@ -8,7 +8,7 @@ use closed_rows::{ClosedRows, OrderedPairs, PairReason, Sweeps, close_rows};
 use numbered_log::{Budget, LocationId, NOBODY, NumberedLog, OperationId, ProcessId, ProcessPlace};
 use possible_sources::{HidingAccesses, LossCause, SourceIntervals, Time, ValueClasses};
 use std::alloc::{AllocError, Global};
-use total_tables::put;
+use total_tables::{first_place, put};
 
 /// The order, and the possible sources of readers by it.
 pub struct GivenOrder<'a> {
@@ -124,40 +124,18 @@ impl<'a> GivenOrder<'a> {
     }
 
     /// The first position of a run, from one up to another, whose writer is not hidden from the reader. What hides a writer hides those before it in its
-    /// process, so halving finds it; 32 times are enough for each position.
+    /// process.
     fn first_visible(&self, reader: OperationId, begin: u32, end: u32) -> u32 {
-        let mut low = begin;
-        let mut high = end;
-        for _ in 0..32 {
-            if low >= high {
-                break;
-            }
-            let middle = low.wrapping_add(high.wrapping_sub(low) / 2);
-            if self.hider(self.classes.writer(middle), reader).is_some() {
-                low = middle.wrapping_add(1);
-            } else {
-                high = middle;
-            }
-        }
-        low
+        first_place(begin, end, |position| {
+            self.hider(self.classes.writer(position), reader).is_none()
+        })
     }
 
     /// The first position of a run, from one up to another, whose writer stands after the reader. Those behind it stand after the reader too.
     fn first_late(&self, reader: OperationId, begin: u32, end: u32) -> u32 {
-        let mut low = begin;
-        let mut high = end;
-        for _ in 0..32 {
-            if low >= high {
-                break;
-            }
-            let middle = low.wrapping_add(high.wrapping_sub(low) / 2);
-            if self.stands_before(reader, self.classes.writer(middle)) {
-                high = middle;
-            } else {
-                low = middle.wrapping_add(1);
-            }
-        }
-        low
+        first_place(begin, end, |position| {
+            self.stands_before(reader, self.classes.writer(position))
+        })
     }
 
     /// Takes from the final value of the location the writers that another one stands after.

@@ -76,20 +76,11 @@ impl Chosen {
 }
 
 /// A part of a log.
+#[derive(Drop)]
 pub struct LogPart {
     pub log: NumberedLog,
     /// For each operation of the part its number in the whole.
     pub numbers: Vec<OperationId>,
-}
-
-/// Drops each table in one call. A derived `Drop` would drop each at every exit of a function that owns a part, which makes its proof longer.
-impl Drop for LogPart {
-    fn drop(self) {
-        let LogPart {
-            log: _log,
-            numbers: _numbers,
-        } = self;
-    }
 }
 
 /// The numbers in the part, by those in the whole.

@@ -6,7 +6,9 @@
 use crate::contradiction::{contradicting, is_refuted};
 use crate::given_order::GivenOrder;
 use crate::part::{Chosen, LogPart, has_all_sources, part_of};
-use numbered_log::{Budget, LocationId, NumberedOrigin, OperationId, ProcessId, ProcessPlace};
+use numbered_log::{
+    Budget, LocationId, NumberedOrigin, Operation, OperationId, ProcessId, ProcessPlace,
+};
 use order_propagation::Propagation;
 use schedule_search::is_refuted_by_walk;
 use std::alloc::{AllocError, Global};
@@ -375,26 +377,22 @@ impl<'a> Core<'a> {
         Ok(())
     }
 
-    /// The operations of the process.
-    fn of_process(&self, process: ProcessId) -> Result<Vec<OperationId>, AllocError> {
+    /// Leaves out the operations that belong to a group, if what is left is refuted.
+    fn leave_out_group<F: Fn(Operation) -> bool>(
+        &mut self,
+        belongs: F,
+        budget: &mut Budget,
+    ) -> Result<(), AllocError>
+        requires { F.IsAlwaysCallable belongs }
+    {
+        budget.spend(self.count() as u64);
         let mut group = Vec::new(self.alloc);
         for operation in &self.operations {
-            if self.forced.log().operation(*operation).process == process {
+            if belongs(self.forced.log().operation(*operation)) {
                 group.push(*operation)?;
             }
         }
-        Ok(group)
-    }
-
-    /// The operations on the location.
-    fn on_location(&self, location: LocationId) -> Result<Vec<OperationId>, AllocError> {
-        let mut group = Vec::new(self.alloc);
-        for operation in &self.operations {
-            if self.forced.log().operation(*operation).location == location {
-                group.push(*operation)?;
-            }
-        }
-        Ok(group)
+        self.leave_out(group.as_slice(), budget)
     }
 
     /// Leaves out operations as long as what is left is refuted: those of a process, those on a location, halves, quarters and so on, and
@@ -404,20 +402,16 @@ impl<'a> Core<'a> {
         self.refine(budget)?;
         let log = self.forced.log();
         for process in log.process_ids() {
-            budget.spend(self.count() as u64);
             if budget.is_spent() {
                 return Ok(());
             }
-            let group = self.of_process(process)?;
-            self.leave_out(group.as_slice(), budget)?;
+            self.leave_out_group(|operation| operation.process == process, budget)?;
         }
         for location in log.location_ids() {
-            budget.spend(self.count() as u64);
             if budget.is_spent() {
                 return Ok(());
             }
-            let group = self.on_location(location)?;
-            self.leave_out(group.as_slice(), budget)?;
+            self.leave_out_group(|operation| operation.location == location, budget)?;
         }
         let mut width = self.count() / 2;
         for _ in 0..32 {

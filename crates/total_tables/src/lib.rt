@@ -47,6 +47,28 @@ pub fn size<T>(table: &[T]) -> u32 {
     }
 }
 
+/// Returns the first place, from one up to another, that passes, or the end. What stands behind a place that passes has to pass too, so it is found by
+/// halving; places have 32 bits, so 32 times are enough.
+#[inline(always)]
+pub fn first_place<F: Fn(u32) -> bool>(begin: u32, end: u32, passes: F) -> u32
+    requires { F.IsAlwaysCallable passes }
+{
+    let mut low = begin;
+    let mut high = end;
+    for _ in 0..32 {
+        if low >= high {
+            break;
+        }
+        let middle = low.wrapping_add(high.wrapping_sub(low) / 2);
+        if passes(middle) {
+            high = middle;
+        } else {
+            low = middle.wrapping_add(1);
+        }
+    }
+    low
+}
+
 /// Replaces each entry by the sum of those up to it, itself among them. So if the entry at k + 1 counts what k has, the one at k becomes the place where its
 /// part begins.
 pub fn sum_up(table: &mut [u32]) {

@@ -12,6 +12,7 @@ use trace_semantics::trace::Trace;
 const MOST_PAIRS: usize = 1 << 24;
 
 /// The times of all operations, by number.
+#[derive(Drop)]
 struct OperationTimes {
     /// When each began, 0 for one without times: nothing had ended before.
     starts: Vec<u64>,
@@ -22,18 +23,6 @@ struct OperationTimes {
     rise: bool,
     /// Whether any operation has times.
     has_any: bool,
-}
-
-/// Drops both tables in one call. A derived `Drop` would drop each at every exit of a function that owns times, which makes its proof longer.
-impl Drop for OperationTimes {
-    fn drop(self) {
-        let OperationTimes {
-            starts: _starts,
-            least_ends: _least_ends,
-            rise: _,
-            has_any: _,
-        } = self;
-    }
 }
 
 impl OperationTimes {
@@ -129,6 +118,7 @@ impl OperationTimes {
 }
 
 /// What is known at an operation: the last operations that had ended before it or before an earlier one of its process began.
+#[derive(Drop)]
 struct EndedFronts {
     /// For each process a place, or `START`.
     fronts: Vec<ProcessPlace>,
@@ -136,17 +126,6 @@ struct EndedFronts {
     news: Vec<OperationId>,
     /// A time before which all that had ended stands before something that stands before the operation at hand.
     covered: u64,
-}
-
-/// Drops both tables in one call. A derived `Drop` would drop each at every exit of a function that owns fronts, which makes its proof longer.
-impl Drop for EndedFronts {
-    fn drop(self) {
-        let EndedFronts {
-            fronts: _fronts,
-            news: _news,
-            covered: _,
-        } = self;
-    }
 }
 
 impl EndedFronts {

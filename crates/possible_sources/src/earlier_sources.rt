@@ -1,0 +1,125 @@
+//! The sources that a reader had left at an earlier time, and what had taken the others from it.
+//!
+//! Past the end of a table `at` reads as its last argument; so arithmetic may wrap, and a wrong place makes no fault.
+
+use crate::source_intervals::{LossCause, SourceIntervals};
+use crate::time::Time;
+use crate::value_classes::ValueClasses;
+use numbered_log::{NO_NUMBER, NOBODY, OperationId};
+use std::alloc::{AllocError, Global};
+use total_tables::{at, size};
+
+/// An end of an interval at a time, and the cause of the last loss at that end before it, if there is one. It is the reason for all that was lost
+/// there: what was lost before lies further out.
+#[derive(Clone, Copy)]
+pub struct EarlierBound {
+    /// A position among the writers of `ValueClasses`.
+    pub position: u32,
+    pub cause: Option<LossCause>,
+}
+
+/// The intervals that a reader had at a time, of each its first position and the one behind its last.
+#[derive(Drop)]
+pub struct EarlierSources {
+    lows: Vec<u32>,
+    highs: Vec<u32>,
+}
+
+impl SourceIntervals {
+    /// The bound at a time of which this is the last one, with this last loss. Losses at one end are a list, the last first, so each that is not older than
+    /// the time is undone on the way.
+    fn bound_at(&self, last_bound: u32, last_loss: u32, time: Time) -> EarlierBound {
+        let mut position = last_bound;
+        let mut number = last_loss;
+        for _ in 0..self.losses() {
+            if number == NO_NUMBER {
+                break;
+            }
+            let loss = self.loss(number);
+            if loss.cause.time.is_before(time) {
+                let cause = Some(loss.cause);
+                return EarlierBound { position, cause };
+            }
+            position = loss.old_bound;
+            number = loss.previous;
+        }
+        EarlierBound {
+            position,
+            cause: None,
+        }
+    }
+
+    /// The first position of the interval at the time. The writers before it were hidden.
+    pub fn low_at(&self, reader: OperationId, run: u32, time: Time) -> EarlierBound {
+        let last = self.last_hidden(self.interval(reader, run));
+        self.bound_at(self.low(reader, run), last, time)
+    }
+
+    /// The position behind the interval at the time. The writers from there on stood after the reader.
+    pub fn high_at(&self, reader: OperationId, run: u32, time: Time) -> EarlierBound {
+        let last = self.last_late(self.interval(reader, run));
+        self.bound_at(self.high(reader, run), last, time)
+    }
+
+    /// The cause for which the reader had lost the initial value at the time, if it had.
+    pub fn initial_loss_at(&self, reader: OperationId, time: Time) -> Option<LossCause> {
+        let lost = self.initial_loss(reader);
+        if lost == NO_NUMBER {
+            return None;
+        }
+        let cause = self.loss(lost).cause;
+        if cause.time.is_before(time) {
+            Some(cause)
+        } else {
+            None
+        }
+    }
+}
+
+impl EarlierSources {
+    /// No interval.
+    pub fn new(alloc: Global) -> EarlierSources {
+        EarlierSources {
+            lows: Vec::new(alloc),
+            highs: Vec::new(alloc),
+        }
+    }
+
+    /// Takes all intervals away.
+    pub fn clear(&mut self) {
+        self.lows.clear();
+        self.highs.clear();
+    }
+
+    /// Adds the next interval of the reader, from one position up to another.
+    pub fn add(&mut self, low: u32, high: u32) -> Result<(), AllocError> {
+        self.lows.push(low)?;
+        self.highs.push(high)?;
+        Ok(())
+    }
+
+    /// The number of intervals.
+    pub fn intervals(&self) -> u32 {
+        size(self.lows.as_slice())
+    }
+
+    /// The first source of the interval, or `NOBODY` if it has none.
+    pub fn first(&self, classes: &ValueClasses, run: u32) -> OperationId {
+        let low = at(self.lows.as_slice(), run, 0);
+        if low < at(self.highs.as_slice(), run, 0) {
+            classes.writer(low)
+        } else {
+            NOBODY
+        }
+    }
+
+    /// The last source of the interval, or `NOBODY` if it has none.
+    pub fn last(&self, classes: &ValueClasses, run: u32) -> OperationId {
+        let high = at(self.highs.as_slice(), run, 0);
+        if at(self.lows.as_slice(), run, 0) < high {
+            classes.writer(high.wrapping_sub(1))
+        } else {
+            NOBODY
+        }
+    }
+}
