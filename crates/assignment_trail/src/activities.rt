@@ -1,6 +1,7 @@
 //! Decision order by exponential VSIDS (Moskewicz and others, "Chaff", 2001; Eén and Sörensson, "An extensible SAT-solver", 2003).
 
 use crate::drawing::drawn;
+use proof_log::codes::Variable;
 use std::alloc::{AllocError, Global};
 use total_tables::{at, put, size};
 
@@ -26,7 +27,7 @@ pub struct Activities {
     /// The increment of the next bump.
     bump: f64,
     /// The heap: the children of slot s are in slots 2s + 1 and 2s + 2. Slots from `count` on are free.
-    heap: Vec<u32>,
+    heap: Vec<Variable>,
     /// The number of variables in the heap.
     count: u32,
     /// Slot of each variable in the heap, plus one, or 0.
@@ -37,19 +38,23 @@ pub struct Activities {
 
 impl Activities {
     /// Starts with equal activities, so that the decision variables are popped in this order.
-    pub fn new(alloc: Global, variables: u32, wanted: &[u32]) -> Result<Activities, AllocError> {
+    pub fn new(
+        alloc: Global,
+        variables: u32,
+        wanted: &[Variable],
+    ) -> Result<Activities, AllocError> {
         let places = variables.wrapping_add(1) as usize;
         let mut activities = Activities {
             activities: vec![in alloc; 0.0; places]?,
             bump: 1.0,
-            heap: vec![in alloc; 0; places]?,
+            heap: vec![in alloc; Variable::NONE; places]?,
             count: size(wanted),
             places: vec![in alloc; 0; places]?,
             wanted: vec![in alloc; 0; places]?,
         };
         for place in 0..size(wanted) {
-            let variable = at(wanted, place, 0);
-            put(activities.wanted.as_mut_slice(), variable, 1);
+            let variable = at(wanted, place, Variable::NONE);
+            put(activities.wanted.as_mut_slice(), variable.number(), 1);
             activities.set_slot(place, variable);
         }
         Ok(activities)
@@ -60,13 +65,13 @@ impl Activities {
     pub fn after(
         alloc: Global,
         ended: &Activities,
-        wanted: &[u32],
+        wanted: &[Variable],
     ) -> Result<Activities, AllocError> {
         let places = ended.places.len();
         let mut activities = Activities {
             activities: ended.activities.clone()?,
             bump: ended.bump,
-            heap: vec![in alloc; 0; places]?,
+            heap: vec![in alloc; Variable::NONE; places]?,
             count: 0,
             places: vec![in alloc; 0; places]?,
             wanted: ended.wanted.clone()?,
@@ -78,20 +83,33 @@ impl Activities {
     }
 
     #[inline(always)]
-    fn activity(&self, variable: u32) -> f64 {
-        at(self.activities.as_slice(), variable, 0.0)
+    fn activity(&self, variable: Variable) -> f64 {
+        at(self.activities.as_slice(), variable.number(), 0.0)
+    }
+
+    /// Returns the variable in this slot of the heap.
+    #[inline(always)]
+    fn in_slot(&self, place: u32) -> Variable {
+        at(self.heap.as_slice(), place, Variable::NONE)
+    }
+
+    /// Returns the slot of the variable, plus one, or 0.
+    #[inline(always)]
+    fn slot_of(&self, variable: Variable) -> u32 {
+        at(self.places.as_slice(), variable.number(), 0)
     }
 
     /// Writes the variable into this slot of the heap.
     #[inline(always)]
-    fn set_slot(&mut self, place: u32, variable: u32) {
+    fn set_slot(&mut self, place: u32, variable: Variable) {
+        let slot = place.wrapping_add(1);
         put(self.heap.as_mut_slice(), place, variable);
-        put(self.places.as_mut_slice(), variable, place.wrapping_add(1));
+        put(self.places.as_mut_slice(), variable.number(), slot);
     }
 
     /// Sifts the variable in this slot up. Slots are numbered by 32 bits, so 32 levels are enough.
     fn rise(&mut self, from: u32) {
-        let variable = at(self.heap.as_slice(), from, 0);
+        let variable = self.in_slot(from);
         let activity = self.activity(variable);
         let mut place = from;
         for _ in 0..32 {
@@ -99,7 +117,7 @@ impl Activities {
                 break;
             }
             let parent = place.wrapping_sub(1) >> 1;
-            let above = at(self.heap.as_slice(), parent, 0);
+            let above = self.in_slot(parent);
             if activity <= self.activity(above) {
                 break;
             }
@@ -111,7 +129,7 @@ impl Activities {
 
     /// Sifts the variable at the root down.
     fn sink(&mut self) {
-        let variable = at(self.heap.as_slice(), 0, 0);
+        let variable = self.in_slot(0);
         let activity = self.activity(variable);
         let mut place: u32 = 0;
         for _ in 0..32 {
@@ -119,10 +137,10 @@ impl Activities {
             if child >= self.count {
                 break;
             }
-            let mut below = at(self.heap.as_slice(), child, 0);
+            let mut below = self.in_slot(child);
             let other = child.wrapping_add(1);
             if other < self.count {
-                let beside = at(self.heap.as_slice(), other, 0);
+                let beside = self.in_slot(other);
                 if self.activity(beside) > self.activity(below) {
                     child = other;
                     below = beside;
@@ -139,9 +157,9 @@ impl Activities {
 
     /// Inserts the variable into the heap, if it is a decision variable and not there.
     #[inline(always)]
-    pub fn insert(&mut self, variable: u32) {
-        if at(self.wanted.as_slice(), variable, 0) == 0
-            || at(self.places.as_slice(), variable, 1) != 0
+    pub fn insert(&mut self, variable: Variable) {
+        if at(self.wanted.as_slice(), variable.number(), 0) == 0
+            || at(self.places.as_slice(), variable.number(), 1) != 0
         {
             return;
         }
@@ -152,15 +170,15 @@ impl Activities {
     }
 
     /// Pops the most active variable.
-    pub fn pop(&mut self) -> Option<u32> {
+    pub fn pop(&mut self) -> Option<Variable> {
         if self.count == 0 {
             return None;
         }
-        let variable = at(self.heap.as_slice(), 0, 0);
-        put(self.places.as_mut_slice(), variable, 0);
+        let variable = self.in_slot(0);
+        put(self.places.as_mut_slice(), variable.number(), 0);
         self.count = self.count.wrapping_sub(1);
         if self.count > 0 {
-            let last = at(self.heap.as_slice(), self.count, 0);
+            let last = self.in_slot(self.count);
             self.set_slot(0, last);
             self.sink();
         }
@@ -168,16 +186,16 @@ impl Activities {
     }
 
     /// Bumps the variable: it was part of a conflict. Activities only grow, or are all scaled, so the heap needs no more than that it rises.
-    pub fn bump(&mut self, variable: u32) {
+    pub fn bump(&mut self, variable: Variable) {
         let activity = self.activity(variable) + self.bump;
-        put(self.activities.as_mut_slice(), variable, activity);
+        put(self.activities.as_mut_slice(), variable.number(), activity);
         if activity > RESCALE_LIMIT {
             for entry in self.activities.iter_mut() {
                 *entry *= RESCALE_FACTOR;
             }
             self.bump *= RESCALE_FACTOR;
         }
-        let place = at(self.places.as_slice(), variable, 0);
+        let place = self.slot_of(variable);
         if place != 0 {
             self.rise(place.wrapping_sub(1));
         }
@@ -186,11 +204,12 @@ impl Activities {
     /// Adds a little to each activity, less than a hundredth of a bump, as this seed has it. So searches with other seeds try other decisions among
     /// variables that had the same conflicts.
     pub fn stir(&mut self, seed: u32) {
-        for variable in 0..size(self.activities.as_slice()) {
+        for number in 0..size(self.activities.as_slice()) {
+            let variable = Variable::new(number);
             let little = f64::from(drawn(seed, variable) % STIR_STEPS) * STIR_STEP;
             let activity = self.activity(variable) + little * self.bump;
-            put(self.activities.as_mut_slice(), variable, activity);
-            let place = at(self.places.as_slice(), variable, 0);
+            put(self.activities.as_mut_slice(), number, activity);
+            let place = self.slot_of(variable);
             if place != 0 {
                 self.rise(place.wrapping_sub(1));
             }

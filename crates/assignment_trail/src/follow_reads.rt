@@ -1,19 +1,17 @@
 //! Unit propagation through the reads-from clauses, which are never stored: sets of bits find what they imply, and a clause is made only
 //! when conflict analysis asks for it (lazy reasons, as in solvers modulo theories).
-//!
-//! A literal is given by its code: twice its variable, plus one if it is negative. So `^ 1` negates it, and `>> 1` gives its variable.
 
 use crate::ordered_trail::OrderedTrail;
 use crate::trail::{FALSE, OPEN};
 use clause_database::{ReadsFromTable, ReadsFromVariable, Reason, ReasonClause};
 use order_sets::next_element;
-use proof_log::codes::NEVER;
+use proof_log::codes::{LiteralCode, NEVER, Variable};
 
 /// A reads-from clause as the reason of a literal: the reads-from variable, and a writer that must not come between. If the writer is the chosen
 /// one, the clause says that it stands before the reader.
 #[derive(Clone, Copy)]
 struct Because {
-    choice: u32,
+    choice: Variable,
     writer: u32,
 }
 
@@ -22,27 +20,27 @@ impl<'a> OrderedTrail<'a> {
     pub fn clause_of_choice(
         &self,
         reads_from: &ReadsFromTable,
-        variable: u32,
+        variable: Variable,
         writer: u32,
     ) -> ReasonClause {
         let Some(choice) = reads_from.choice(variable) else {
-            return ReasonClause::of_literals(0, NEVER, NEVER, NEVER);
+            return ReasonClause::none();
         };
         let id = reads_from.clause_of(choice, writer);
         let reader = choice.reader;
-        let not_made = variable.wrapping_mul(2) | 1;
+        let not_made = variable.negative();
         match choice.writer {
             None => {
-                let is_behind = self.order().literal(reader, writer);
+                let is_behind = self.before(reader, writer);
                 ReasonClause::of_literals(id, not_made, is_behind, NEVER)
             }
             Some(chosen) if chosen == writer => {
-                let comes_first = self.order().literal(chosen, reader);
+                let comes_first = self.before(chosen, reader);
                 ReasonClause::of_literals(id, not_made, comes_first, NEVER)
             }
             Some(chosen) => {
-                let is_before = self.order().literal(writer, chosen);
-                let is_behind = self.order().literal(reader, writer);
+                let is_before = self.before(writer, chosen);
+                let is_behind = self.before(reader, writer);
                 ReasonClause::of_literals(id, not_made, is_before, is_behind)
             }
         }
@@ -53,7 +51,7 @@ impl<'a> OrderedTrail<'a> {
     fn imply(
         &mut self,
         reads_from: &ReadsFromTable,
-        literal: u32,
+        literal: LiteralCode,
         because: Because,
     ) -> Result<(), ReasonClause> {
         let Because { choice, writer } = because;
@@ -70,11 +68,10 @@ impl<'a> OrderedTrail<'a> {
     fn strike(
         &mut self,
         reads_from: &ReadsFromTable,
-        choice: u32,
+        choice: Variable,
         writer: u32,
     ) -> Result<(), ReasonClause> {
-        let not_made = choice.wrapping_mul(2) | 1;
-        self.imply(reads_from, not_made, Because { choice, writer })
+        self.imply(reads_from, choice.negative(), Because { choice, writer })
     }
 
     /// A writer is ordered before a reader of its location: the reader reads from nothing before the writer, and what it reads comes after.
@@ -85,7 +82,7 @@ impl<'a> OrderedTrail<'a> {
         reader: u32,
     ) -> Result<(), ReasonClause> {
         let first = reads_from.variable_without_writer(reader);
-        if first != 0 {
+        if first != Variable::NONE {
             self.strike(reads_from, first, writer)?;
         }
         for number in 0..self.candidates.writers.words() {
@@ -104,7 +101,7 @@ impl<'a> OrderedTrail<'a> {
                 };
                 if other != writer {
                     let choice = reads_from.variable(reader, other);
-                    let literal = self.order().literal(writer, other);
+                    let literal = self.before(writer, other);
                     self.imply(reads_from, literal, Because { choice, writer })?;
                 }
             }
@@ -137,7 +134,7 @@ impl<'a> OrderedTrail<'a> {
                 };
                 if reader != second {
                     let choice = reads_from.variable(reader, first);
-                    let literal = self.order().literal(reader, second);
+                    let literal = self.before(reader, second);
                     let writer = second;
                     self.imply(reads_from, literal, Because { choice, writer })?;
                 }
@@ -158,8 +155,8 @@ impl<'a> OrderedTrail<'a> {
                 let Some(writer) = next_element(&mut writers, number) else {
                     break;
                 };
-                let literal = self.order().literal(choice.reader, writer);
-                let choice = choice.variable;
+                let literal = self.before(choice.reader, writer);
+                let choice = Variable::new(choice.variable);
                 self.imply(reads_from, literal, Because { choice, writer })?;
             }
         }
@@ -174,8 +171,8 @@ impl<'a> OrderedTrail<'a> {
         chosen: u32,
     ) -> Result<(), ReasonClause> {
         let reader = choice.reader;
-        let literal = self.order().literal(chosen, reader);
-        let choice = choice.variable;
+        let literal = self.before(chosen, reader);
+        let choice = Variable::new(choice.variable);
         let writer = chosen;
         self.imply(reads_from, literal, Because { choice, writer })?;
         for number in 0..reads_from.writers().words() {
@@ -187,7 +184,7 @@ impl<'a> OrderedTrail<'a> {
                 let Some(writer) = next_element(&mut later, number) else {
                     break;
                 };
-                let literal = self.order().literal(reader, writer);
+                let literal = self.before(reader, writer);
                 self.imply(reads_from, literal, Because { choice, writer })?;
             }
             let before = self.order().predecessors().word(reader, number);
@@ -197,7 +194,7 @@ impl<'a> OrderedTrail<'a> {
                     break;
                 };
                 if writer != chosen {
-                    let literal = self.order().literal(writer, chosen);
+                    let literal = self.before(writer, chosen);
                     self.imply(reads_from, literal, Because { choice, writer })?;
                 }
             }
@@ -207,18 +204,18 @@ impl<'a> OrderedTrail<'a> {
 
     /// Propagates a true literal through the reads-from clauses. Returns a conflict, if there is one.
     #[inline(always)]
-    pub fn follow_reads(&mut self, literal: u32) -> Result<(), ReasonClause> {
+    pub fn follow_reads(&mut self, literal: LiteralCode) -> Result<(), ReasonClause> {
         let Some(reads_from) = self.reads_from else {
             return Ok(());
         };
-        if literal >> 1 > self.order().variables() {
-            if literal & 1 == 0 {
-                return self.follow_made_choice(reads_from, literal >> 1);
+        if !self.is_of_order(literal.variable()) {
+            if literal.is_positive() {
+                return self.follow_made_choice(reads_from, literal.variable());
             }
             return Ok(());
         }
         // The set of an element has the other writers of its location, whether it reads or writes.
-        let (first, second) = self.order().ends(literal);
+        let (first, second) = self.ends(literal);
         if reads_from.writers().has(second, first) {
             self.follow_writer(reads_from, first, second)?;
             if reads_from.writers().has(first, second) {
@@ -236,7 +233,7 @@ impl<'a> OrderedTrail<'a> {
     fn follow_made_choice(
         &mut self,
         reads_from: &ReadsFromTable,
-        variable: u32,
+        variable: Variable,
     ) -> Result<(), ReasonClause> {
         let Some(choice) = reads_from.choice(variable) else {
             return Ok(());

@@ -1,13 +1,12 @@
 //! A trail with an order that is transitively closed at each assignment.
-//!
-//! A literal is given by its code: twice its variable, plus one if it is negative. So `^ 1` negates it, and `>> 1` gives its variable.
 
 use crate::activities::Activities;
 use crate::candidates::Candidates;
 use crate::trail::Trail;
 use clause_database::{EncodingHints, ReadsFromTable, Reason, ReasonClause, Store};
 use order_sets::{OrderMatrix, TripleIds};
-use proof_log::codes::NEVER;
+use proof_log::ClauseId;
+use proof_log::codes::{LiteralCode, NEVER, Variable};
 use std::alloc::{AllocError, Global};
 use total_tables::at;
 
@@ -56,7 +55,7 @@ impl<'a> OrderedTrail<'a> {
         Ok(OrderedTrail {
             trail: Trail::new(alloc, variables, order.variables())?,
             order,
-            ids: TripleIds::new(alloc, encoding.elements(), encoding.first())?,
+            ids: TripleIds::new(alloc, encoding.elements(), encoding.first().number())?,
             reads_from: encoding.reads_from(),
             candidates,
         })
@@ -68,31 +67,49 @@ impl<'a> OrderedTrail<'a> {
         &self.order
     }
 
+    /// Returns the literal which says that the first of two elements stands before the second.
     #[inline(always)]
-    pub fn value(&self, literal: u32) -> u8 {
+    pub fn before(&self, a: u32, b: u32) -> LiteralCode {
+        LiteralCode::new(self.order.literal(a, b))
+    }
+
+    /// Returns the elements of which an order literal says that the first stands before the second.
+    #[inline(always)]
+    pub(crate) fn ends(&self, literal: LiteralCode) -> (u32, u32) {
+        self.order.ends(literal.code())
+    }
+
+    /// Returns whether the variable is one of the order.
+    #[inline(always)]
+    pub(crate) fn is_of_order(&self, variable: Variable) -> bool {
+        variable.number() <= self.order.variables()
+    }
+
+    #[inline(always)]
+    pub fn value(&self, literal: LiteralCode) -> u8 {
         self.trail.value(literal)
     }
 
     /// Assigns the literal, and all that it implies in the order.
     #[inline(always)]
-    pub fn assign(&mut self, literal: u32, reason: Reason) {
+    pub fn assign(&mut self, literal: LiteralCode, reason: Reason) {
         self.trail.push(literal, reason);
-        if literal >> 1 <= self.order.variables() {
+        if self.is_of_order(literal.variable()) {
             self.close(literal);
         } else if let Some(reads_from) = self.reads_from
-            && let Some(choice) = reads_from.choice(literal >> 1)
+            && let Some(choice) = reads_from.choice(literal.variable())
         {
-            self.candidates.settle(choice, literal & 1 == 0);
+            self.candidates.settle(choice, literal.is_positive());
         }
     }
 
     /// Assigns what the literal implies by transitivity.
-    fn close(&mut self, literal: u32) {
-        let (a, b) = self.order.ends(literal);
+    fn close(&mut self, literal: LiteralCode) {
+        let (a, b) = self.ends(literal);
         self.order.add(a, b);
         for implied in self.order.implied() {
             self.trail.push(
-                implied.literal,
+                LiteralCode::new(implied.literal),
                 Reason::Transitive {
                     element: implied.over,
                 },
@@ -103,23 +120,23 @@ impl<'a> OrderedTrail<'a> {
     /// Returns the reason of a true literal as a clause. A stored clause and that of a choice have the literal too, the others only those that made
     /// it true: a caller has marked its variable before. A decision has an empty clause with the id 0.
     #[inline(always)]
-    pub fn reason(&self, store: &Store, literal: u32) -> ReasonClause {
-        match self.trail.state(literal >> 1).reason {
-            Reason::Decision => ReasonClause::of_literals(0, NEVER, NEVER, NEVER),
+    pub fn reason(&self, store: &Store, literal: LiteralCode) -> ReasonClause {
+        match self.trail.state(literal.variable()).reason {
+            Reason::Decision => ReasonClause::none(),
             Reason::Clause { id, first, second } => ReasonClause::of_literals(
                 id, first, second, NEVER,
             ),
             Reason::Stored { place } => store.reason(place),
             Reason::Choice { choice, writer } => match self.reads_from {
                 Some(reads_from) => self.clause_of_choice(reads_from, choice, writer),
-                None => ReasonClause::of_literals(0, NEVER, NEVER, NEVER),
+                None => ReasonClause::none(),
             },
             Reason::Transitive { element } => {
-                let (a, b) = self.order.ends(literal);
+                let (a, b) = self.ends(literal);
                 ReasonClause::of_literals(
-                    self.ids.of_cycle(a, element, b),
-                    self.order.literal(element, a),
-                    self.order.literal(b, element),
+                    ClauseId::new(self.ids.of_cycle(a, element, b)),
+                    self.before(element, a),
+                    self.before(b, element),
                     NEVER,
                 )
             }
@@ -127,8 +144,9 @@ impl<'a> OrderedTrail<'a> {
     }
 
     /// Returns whether the literal, or its negation, was decided. It is asked of variables that have a value.
-    pub fn was_decided(&self, literal: u32) -> bool {
-        matches!(self.trail.state(literal >> 1).reason, Reason::Decision)
+    pub fn was_decided(&self, literal: LiteralCode) -> bool {
+        let reason = self.trail.state(literal.variable()).reason;
+        matches!(reason, Reason::Decision)
     }
 
     /// Backtracks to the level: undoes all later assignments. Their variables go back into the heap, from which a decision takes those out
@@ -140,15 +158,15 @@ impl<'a> OrderedTrail<'a> {
         let from = self.trail.limit(level);
         for _ in from..self.trail.count() {
             let literal = self.trail.pop();
-            if literal >> 1 <= self.order.variables() {
-                let (a, b) = self.order.ends(literal);
+            if self.is_of_order(literal.variable()) {
+                let (a, b) = self.ends(literal);
                 self.order.remove(a, b);
             } else if let Some(reads_from) = self.reads_from
-                && let Some(choice) = reads_from.choice(literal >> 1)
+                && let Some(choice) = reads_from.choice(literal.variable())
             {
-                self.candidates.reopen(choice, literal & 1 == 0);
+                self.candidates.reopen(choice, literal.is_positive());
             }
-            activities.insert(literal >> 1);
+            activities.insert(literal.variable());
         }
         self.trail.resume(level);
     }
@@ -171,11 +189,11 @@ impl<'a> OrderedTrail<'a> {
     }
 
     /// Returns the value of an order variable under these ranks, or none for another variable.
-    pub fn by_rank(&self, ranks: &[u32], variable: u32) -> Option<bool> {
-        if variable > self.order.variables() {
+    pub fn by_rank(&self, ranks: &[u32], variable: Variable) -> Option<bool> {
+        if !self.is_of_order(variable) {
             return None;
         }
-        let (a, b) = self.order.ends(variable.wrapping_mul(2));
+        let (a, b) = self.ends(variable.positive());
         Some(at(ranks, a, 0) < at(ranks, b, 0))
     }
 }

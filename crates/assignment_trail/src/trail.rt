@@ -1,10 +1,8 @@
 //! The trail: true literals in the order of their assignment.
-//!
-//! A literal is given by its code: twice its variable, plus one if it is negative. So `^ 1` negates it, and `>> 1` gives its variable.
 
 use crate::drawing::drawn;
 use clause_database::Reason;
-use proof_log::codes::NEVER;
+use proof_log::codes::{ALWAYS, LiteralCode, NEVER, Variable};
 use std::alloc::{AllocError, Global};
 use total_tables::{at, put, size};
 
@@ -34,7 +32,7 @@ pub struct Trail {
     /// The state of each variable. It has a meaning only while the variable has a value: when that is undone, it stays.
     states: Vec<VariableState>,
     /// The true literals, up to `count`.
-    literals: Vec<u32>,
+    literals: Vec<LiteralCode>,
     count: u32,
     /// Place of the first literal that has not been propagated.
     head: u32,
@@ -55,14 +53,14 @@ impl Trail {
             place: 0,
             reason: Reason::Decision,
         };
-        let mut values = vec![in alloc; OPEN; variables.wrapping_mul(2).wrapping_add(2) as usize]?;
+        let mut values = vec![in alloc; OPEN; LiteralCode::count_over(variables) as usize]?;
         // What fills up short clauses is false from the start, so that propagation has no case for it.
-        put(values.as_mut_slice(), NEVER, FALSE);
-        put(values.as_mut_slice(), NEVER ^ 1, TRUE);
+        put(values.as_mut_slice(), NEVER.code(), FALSE);
+        put(values.as_mut_slice(), ALWAYS.code(), TRUE);
         let mut trail = Trail {
             values,
             states: vec![in alloc; nothing; places]?,
-            literals: vec![in alloc; 0; places]?,
+            literals: vec![in alloc; NEVER; places]?,
             count: 0,
             head: 0,
             limits: vec![in alloc; 0; places.saturating_add(1)]?,
@@ -101,9 +99,10 @@ impl Trail {
 
     /// Draws the value that each variable is tried with first, as this seed has it.
     pub fn draw_first_values(&mut self, seed: u32) {
-        for variable in 0..size(self.phases.as_slice()) {
-            let phase = if drawn(seed, variable) & 1 == 0 { 0 } else { 1 };
-            put(self.phases.as_mut_slice(), variable, phase);
+        for number in 0..size(self.phases.as_slice()) {
+            let bits = drawn(seed, Variable::new(number));
+            let phase = if bits & 1 == 0 { 0 } else { 1 };
+            put(self.phases.as_mut_slice(), number, phase);
         }
     }
 
@@ -115,8 +114,8 @@ impl Trail {
     }
 
     #[inline(always)]
-    pub fn value(&self, literal: u32) -> u8 {
-        at(self.values.as_slice(), literal, OPEN)
+    pub fn value(&self, literal: LiteralCode) -> u8 {
+        at(self.values.as_slice(), literal.code(), OPEN)
     }
 
     /// Returns the values of all literals, by code.
@@ -127,20 +126,20 @@ impl Trail {
 
     /// Returns level, place and reason of the variable.
     #[inline(always)]
-    pub fn state(&self, variable: u32) -> VariableState {
+    pub fn state(&self, variable: Variable) -> VariableState {
         let nothing = VariableState {
             level: 0,
             place: 0,
             reason: Reason::Decision,
         };
-        at(self.states.as_slice(), variable, nothing)
+        at(self.states.as_slice(), variable.number(), nothing)
     }
 
     /// Redirects the reason of the variable to this offset, after the arena was compacted.
-    pub fn move_cause(&mut self, variable: u32, place: u32) {
+    pub fn move_cause(&mut self, variable: Variable, place: u32) {
         let mut state = self.state(variable);
         state.reason = Reason::Stored { place };
-        put(self.states.as_mut_slice(), variable, state);
+        put(self.states.as_mut_slice(), variable.number(), state);
     }
 
     /// Returns the length of the trail.
@@ -149,7 +148,7 @@ impl Trail {
     }
 
     #[inline(always)]
-    pub fn literal(&self, place: u32) -> u32 {
+    pub fn literal(&self, place: u32) -> LiteralCode {
         at(self.literals.as_slice(), place, NEVER)
     }
 
@@ -159,30 +158,30 @@ impl Trail {
     }
 
     /// Returns the literal of the variable in its saved phase.
-    pub fn tried_first(&self, variable: u32) -> u32 {
-        variable
-            .wrapping_mul(2)
-            .wrapping_add(u32::from(at(self.phases.as_slice(), variable, 0) & 1))
+    pub fn tried_first(&self, variable: Variable) -> LiteralCode {
+        let phase = at(self.phases.as_slice(), variable.number(), 0);
+        LiteralCode::of(variable, phase & 1 == 0)
     }
 
     /// Assigns the literal.
     #[inline(always)]
-    pub fn push(&mut self, literal: u32, reason: Reason) {
-        put(self.values.as_mut_slice(), literal, TRUE);
-        put(self.values.as_mut_slice(), literal ^ 1, FALSE);
+    pub fn push(&mut self, literal: LiteralCode, reason: Reason) {
+        put(self.values.as_mut_slice(), literal.code(), TRUE);
+        put(self.values.as_mut_slice(), literal.negated().code(), FALSE);
         let state = VariableState {
             level: self.level,
             place: self.count,
             reason,
         };
-        put(self.states.as_mut_slice(), literal >> 1, state);
+        let variable = literal.variable();
+        put(self.states.as_mut_slice(), variable.number(), state);
         put(self.literals.as_mut_slice(), self.count, literal);
         self.count = self.count.wrapping_add(1);
     }
 
     /// Returns the next literal to be propagated.
     #[inline(always)]
-    pub fn next(&mut self) -> Option<u32> {
+    pub fn next(&mut self) -> Option<LiteralCode> {
         if self.head >= self.count {
             return None;
         }
@@ -204,13 +203,14 @@ impl Trail {
 
     /// Undoes the last assignment, saves its phase and returns its literal.
     #[inline(always)]
-    pub fn pop(&mut self) -> u32 {
+    pub fn pop(&mut self) -> LiteralCode {
         self.count = self.count.wrapping_sub(1);
         let literal = self.literal(self.count);
-        put(self.values.as_mut_slice(), literal, OPEN);
-        put(self.values.as_mut_slice(), literal ^ 1, OPEN);
-        let phase = if literal & 1 == 0 { 0 } else { 1 };
-        put(self.phases.as_mut_slice(), literal >> 1, phase);
+        put(self.values.as_mut_slice(), literal.code(), OPEN);
+        put(self.values.as_mut_slice(), literal.negated().code(), OPEN);
+        let phase = if literal.is_positive() { 0 } else { 1 };
+        let variable = literal.variable();
+        put(self.phases.as_mut_slice(), variable.number(), phase);
         literal
     }
 

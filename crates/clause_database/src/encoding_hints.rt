@@ -2,6 +2,8 @@
 
 use crate::reads_from::{ReadsFromTable, ReadsFromVariable};
 use order_sets::{MAX_ELEMENTS, pair_count, transitivity_count, variable_of_pair};
+use proof_log::ClauseId;
+use proof_log::codes::Variable;
 use total_tables::size;
 
 /// Hints of the caller of `solve` about the formula: which of its clauses are the transitivity of an order.
@@ -19,7 +21,7 @@ pub struct EncodingHints<'a> {
     /// The number of elements of the order; 0 if there are no hints.
     elements: u32,
     /// The id of the first transitivity clause, counted from 1. Without hints it is 1: the loader then passes over no clause.
-    first: u32,
+    first: ClauseId,
     reads_from: Option<&'a ReadsFromTable>,
 }
 
@@ -28,7 +30,7 @@ impl<'a> EncodingHints<'a> {
     pub fn none() -> EncodingHints<'a> {
         EncodingHints {
             elements: 0,
-            first: 1,
+            first: ClauseId::new(1),
             reads_from: None,
         }
     }
@@ -41,7 +43,7 @@ impl<'a> EncodingHints<'a> {
         }
         EncodingHints {
             elements,
-            first,
+            first: ClauseId::new(first),
             reads_from: None,
         }
     }
@@ -62,8 +64,8 @@ impl<'a> EncodingHints<'a> {
     pub fn fitting(self, variables: u32, clauses: usize) -> EncodingHints<'a> {
         let pairs = pair_count(self.elements);
         if pairs > variables
-            || self.first == 0
-            || self.end_id() as usize > clauses.saturating_add(1)
+            || self.first == ClauseId::NONE
+            || self.end_id().number() as usize > clauses.saturating_add(1)
         {
             return EncodingHints::none();
         }
@@ -95,17 +97,17 @@ impl<'a> EncodingHints<'a> {
     }
 
     /// Returns the order variable of these two events.
-    pub fn variable_of_pair(self, a: u32, b: u32) -> u32 {
-        variable_of_pair(self.elements, a, b)
+    pub fn variable_of_pair(self, a: u32, b: u32) -> Variable {
+        Variable::new(variable_of_pair(self.elements, a, b))
     }
 
     /// Returns the id of the first transitivity clause.
-    pub fn first(self) -> u32 {
+    pub fn first(self) -> ClauseId {
         self.first
     }
 
     /// Returns the id after the last transitivity clause.
-    pub fn end_id(self) -> u32 {
-        self.first.wrapping_add(transitivity_count(self.elements))
+    pub fn end_id(self) -> ClauseId {
+        self.first.ahead(transitivity_count(self.elements))
     }
 }

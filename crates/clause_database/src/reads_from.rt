@@ -1,6 +1,8 @@
 //! Hints about the reads-from variables of an encoding.
 
 use order_sets::{ElementSets, MAX_ELEMENTS};
+use proof_log::ClauseId;
+use proof_log::codes::Variable;
 use std::alloc::{AllocError, Global};
 use total_tables::{at, put};
 
@@ -57,9 +59,9 @@ pub struct ReadsFromTable {
     reading: Vec<u8>,
     /// 1 for each element that writes a location of others.
     writing: Vec<u8>,
-    /// For each reader and each writer the variable of the choice, or 0; after the writers the one of the choice without a
+    /// For each reader and each writer the variable of the choice, or none; after the writers the one of the choice without a
     /// writer. So a reader has one entry more than there are elements.
-    variables: Vec<u32>,
+    variables: Vec<Variable>,
     /// The last writers, those of one location one after the other.
     last_writers: Vec<LastWriter>,
 }
@@ -92,7 +94,7 @@ impl ReadsFromTable {
             choices: Vec::new(alloc),
             reading: vec![in alloc; 0; elements as usize]?,
             writing: vec![in alloc; 0; elements as usize]?,
-            variables: vec![in alloc; 0; pairs as usize]?,
+            variables: vec![in alloc; Variable::NONE; pairs as usize]?,
             last_writers: Vec::new(alloc),
         })
     }
@@ -109,8 +111,8 @@ impl ReadsFromTable {
     /// Adds a choice. They are added by rising variables; others, and those that are not of two elements of the order, are left to their
     /// clauses.
     pub fn add_choice(&mut self, choice: ReadsFromVariable) -> Result<(), AllocError> {
-        // For a variable of the order this wraps to a place that is too large.
-        let place = choice.variable.wrapping_sub(self.base).wrapping_sub(1);
+        let variable = Variable::new(choice.variable);
+        let place = self.place_of_variable(variable);
         let column = choice.writer.unwrap_or(self.elements);
         if place >= MAX_VARIABLES
             || (place as usize) < self.choices.len()
@@ -125,7 +127,7 @@ impl ReadsFromTable {
         }
         self.choices.push(Some(choice))?;
         let place = self.place_of(choice.reader, column);
-        put(self.variables.as_mut_slice(), place, choice.variable);
+        put(self.variables.as_mut_slice(), place, variable);
         put(self.reading.as_mut_slice(), choice.reader, 1);
         Ok(())
     }
@@ -134,6 +136,12 @@ impl ReadsFromTable {
     pub fn add_last_writer(&mut self, last: LastWriter) -> Result<(), AllocError> {
         self.last_writers.push(last)?;
         Ok(())
+    }
+
+    /// Returns the place of the variable among those of choices. For a variable of the order it wraps to a place that is too large.
+    #[inline(always)]
+    fn place_of_variable(&self, variable: Variable) -> u32 {
+        variable.number().wrapping_sub(self.base).wrapping_sub(1)
     }
 
     /// Returns the place of the choice of this reader in `variables`. The column is its writer, or the number of elements without one.
@@ -172,20 +180,24 @@ impl ReadsFromTable {
 
     /// Returns the choice of this variable, if it is one.
     #[inline(always)]
-    pub fn choice(&self, variable: u32) -> Option<ReadsFromVariable> {
-        let place = variable.wrapping_sub(self.base).wrapping_sub(1);
+    pub fn choice(&self, variable: Variable) -> Option<ReadsFromVariable> {
+        let place = self.place_of_variable(variable);
         at(self.choices.as_slice(), place, None)
     }
 
-    /// Returns the variable of the choice of this reader and this writer, or 0.
+    /// Returns the variable of the choice of this reader and this writer, or none.
     #[inline(always)]
-    pub fn variable(&self, reader: u32, writer: u32) -> u32 {
-        at(self.variables.as_slice(), self.place_of(reader, writer), 0)
+    pub fn variable(&self, reader: u32, writer: u32) -> Variable {
+        at(
+            self.variables.as_slice(),
+            self.place_of(reader, writer),
+            Variable::NONE,
+        )
     }
 
-    /// Returns the variable of the choice of this reader without a writer, or 0.
+    /// Returns the variable of the choice of this reader without a writer, or none.
     #[inline(always)]
-    pub fn variable_without_writer(&self, reader: u32) -> u32 {
+    pub fn variable_without_writer(&self, reader: u32) -> Variable {
         self.variable(reader, self.elements)
     }
 
@@ -213,12 +225,12 @@ impl ReadsFromTable {
     }
 
     /// Returns the id after the last clause of the variable: it has one for each writer.
-    pub fn end_id(&self, choice: ReadsFromVariable) -> u32 {
-        choice.first.wrapping_add(self.writers.count(choice.reader))
+    pub fn end_id(&self, choice: ReadsFromVariable) -> ClauseId {
+        ClauseId::new(choice.first).ahead(self.writers.count(choice.reader))
     }
 
     /// Returns the number of the choice's clause for this writer.
-    pub fn clause_of(&self, choice: ReadsFromVariable, writer: u32) -> u32 {
+    pub fn clause_of(&self, choice: ReadsFromVariable, writer: u32) -> ClauseId {
         let place = self.writers.count_below(choice.reader, writer);
         let place = match choice.writer {
             None => place,
@@ -228,6 +240,6 @@ impl ReadsFromTable {
             // For those behind the chosen one the place counts it already.
             Some(_) => place,
         };
-        choice.first.wrapping_add(place)
+        ClauseId::new(choice.first).ahead(place)
     }
 }

@@ -1,8 +1,7 @@
 //! Reasons of literals, in a few words each: every literal that becomes true writes one, and only those of a conflict are read.
-//!
-//! A literal is given by its code: twice its variable, plus one if it is negative. So `^ 1` negates it, and `>> 1` gives its variable.
 
-use proof_log::codes::NEVER;
+use proof_log::ClauseId;
+use proof_log::codes::{LiteralCode, NEVER, Variable};
 use total_tables::at;
 
 /// Reason (antecedent) of an assigned literal. It is kept as it was found; its clause is built only when conflict analysis asks for it.
@@ -11,13 +10,24 @@ pub enum Reason {
     Decision,
     /// A clause of at most three literals, of which these were false, and `NEVER` fills up. It is stored inline, so that analysis reads no clause
     /// memory. A unit clause has `NEVER` twice.
-    Clause { id: u32, first: u32, second: u32 },
+    Clause {
+        id: ClauseId,
+        first: LiteralCode,
+        second: LiteralCode,
+    },
     /// The clause at this offset of the arena, which is that of its header.
-    Stored { place: u32 },
+    Stored {
+        place: u32,
+    },
     /// Transitivity of the order, via this event: one number, from which the clause and its id are computed.
-    Transitive { element: u32 },
+    Transitive {
+        element: u32,
+    },
     /// The clause of this reads-from variable for this writer.
-    Choice { choice: u32, writer: u32 },
+    Choice {
+        choice: Variable,
+        writer: u32,
+    },
 }
 
 /// A reason clause with its id, to be iterated over: in the arena, or inline with at most three literals. It is a value and no slice, since
@@ -25,19 +35,24 @@ pub enum Reason {
 /// the false ones: who reads them has marked its variable before, and passes over it.
 #[derive(Clone, Copy)]
 pub struct ReasonClause {
-    pub id: u32,
+    pub id: ClauseId,
     /// Number of its literals.
     pub count: u32,
     /// Offset of its literals in the arena, `HEADER` words behind that of the clause, or 0 if they are inline.
     pub place: u32,
-    first: u32,
-    second: u32,
-    third: u32,
+    first: LiteralCode,
+    second: LiteralCode,
+    third: LiteralCode,
 }
 
 impl ReasonClause {
     /// Returns the clause of these literals, of which the last ones may be missing.
-    pub fn of_literals(id: u32, first: u32, second: u32, third: u32) -> ReasonClause {
+    pub fn of_literals(
+        id: ClauseId,
+        first: LiteralCode,
+        second: LiteralCode,
+        third: LiteralCode,
+    ) -> ReasonClause {
         let count = if first == NEVER {
             0
         } else if second == NEVER {
@@ -57,8 +72,13 @@ impl ReasonClause {
         }
     }
 
+    /// Returns a clause without number and literals, where there is none.
+    pub fn none() -> ReasonClause {
+        ReasonClause::of_literals(ClauseId::NONE, NEVER, NEVER, NEVER)
+    }
+
     /// Returns the clause of this number of literals that begin at this offset of the arena.
-    pub fn stored(id: u32, place: u32, count: u32) -> ReasonClause {
+    pub fn stored(id: ClauseId, place: u32, count: u32) -> ReasonClause {
         ReasonClause {
             id,
             count,
@@ -71,9 +91,10 @@ impl ReasonClause {
 
     /// Returns its literal of this number, counted from 0. `store` has the words of the arena.
     #[inline(always)]
-    pub fn literal(&self, store: &[u32], number: u32) -> u32 {
+    pub fn literal(&self, store: &[u32], number: u32) -> LiteralCode {
         if self.place != 0 {
-            return at(store, self.place.wrapping_add(number), NEVER);
+            let word = at(store, self.place.wrapping_add(number), NEVER.code());
+            return LiteralCode::new(word);
         }
         match number {
             0 => self.first,

@@ -1,25 +1,24 @@
 //! Occurrence lists of the clauses of two and three literals.
-//!
-//! A literal is given by its code: twice its variable, plus one if it is negative. So `^ 1` negates it, and `>> 1` gives its variable.
 
-use proof_log::codes::NEVER;
+use proof_log::ClauseId;
+use proof_log::codes::{LiteralCode, NEVER};
 use std::alloc::{AllocError, Global};
 use total_tables::{at, piece, put};
 
 /// A clause of two or three literals, with its number. A clause of two has `NEVER` as its third.
 #[derive(Clone, Copy)]
 pub struct SmallClause {
-    pub first: u32,
-    pub second: u32,
-    pub third: u32,
-    pub id: u32,
+    pub first: LiteralCode,
+    pub second: LiteralCode,
+    pub third: LiteralCode,
+    pub id: ClauseId,
 }
 
 /// The other literals of a clause, seen from one of them.
 #[derive(Clone, Copy)]
 pub struct Others {
-    pub first: u32,
-    pub second: u32,
+    pub first: LiteralCode,
+    pub second: LiteralCode,
 }
 
 /// The clauses of two and three literals. For each literal the other literals of its clauses stand one after the other, and the clauses'
@@ -30,10 +29,12 @@ pub struct SmallClauses {
     /// For each literal the place where its part of the tables begins, and at the end where the last one ends.
     starts: Vec<u32>,
     others: Vec<Others>,
-    ids: Vec<u32>,
+    ids: Vec<ClauseId>,
 }
 
-fn count_one(counts: &mut [u32], place: u32) {
+/// Counts one more clause of the literal, two places further on.
+fn count_one(counts: &mut [u32], literal: LiteralCode) {
+    let place = literal.code().wrapping_add(2);
     let count = at(counts, place, 0);
     put(counts, place, count.wrapping_add(1));
 }
@@ -47,10 +48,10 @@ fn starts_of(
 ) -> Result<Vec<u32>, AllocError> {
     let mut starts = vec![in alloc; 0; literals.wrapping_add(2) as usize]?;
     for clause in clauses {
-        count_one(starts.as_mut_slice(), clause.first.wrapping_add(2));
-        count_one(starts.as_mut_slice(), clause.second.wrapping_add(2));
+        count_one(starts.as_mut_slice(), clause.first);
+        count_one(starts.as_mut_slice(), clause.second);
         if clause.third != NEVER {
-            count_one(starts.as_mut_slice(), clause.third.wrapping_add(2));
+            count_one(starts.as_mut_slice(), clause.third);
         }
     }
     let mut sum: u32 = 0;
@@ -77,7 +78,7 @@ impl SmallClauses {
         let mut small = SmallClauses {
             starts,
             others: vec![in alloc; nothing; total]?,
-            ids: vec![in alloc; 0; total]?,
+            ids: vec![in alloc; ClauseId::NONE; total]?,
         };
         for clause in clauses {
             let SmallClause {
@@ -97,8 +98,14 @@ impl SmallClauses {
 
     /// Enters a clause under one of its literals.
     /// The entry behind the literal's is the next free place of its part: when all are entered, it is where the next part begins.
-    fn enter(&mut self, literal: u32, first: u32, second: u32, id: u32) {
-        let start = literal.wrapping_add(1);
+    fn enter(
+        &mut self,
+        literal: LiteralCode,
+        first: LiteralCode,
+        second: LiteralCode,
+        id: ClauseId,
+    ) {
+        let start = literal.code().wrapping_add(1);
         let place = at(self.starts.as_slice(), start, 0);
         put(self.starts.as_mut_slice(), start, place.wrapping_add(1));
         put(self.others.as_mut_slice(), place, Others { first, second });
@@ -107,23 +114,29 @@ impl SmallClauses {
 
     /// Returns the place where the part of this literal begins.
     #[inline(always)]
-    pub fn start(&self, literal: u32) -> u32 {
-        at(self.starts.as_slice(), literal, 0)
+    pub fn start(&self, literal: LiteralCode) -> u32 {
+        at(self.starts.as_slice(), literal.code(), 0)
+    }
+
+    /// Returns the place where it ends: the next one begins there.
+    #[inline(always)]
+    fn end(&self, literal: LiteralCode) -> u32 {
+        at(self.starts.as_slice(), literal.code().wrapping_add(1), 0)
     }
 
     /// Returns the other literals of the clauses with this literal.
     #[inline(always)]
-    pub fn others(&self, literal: u32) -> &[Others] {
+    pub fn others(&self, literal: LiteralCode) -> &[Others] {
         piece(
             self.others.as_slice(),
             self.start(literal),
-            self.start(literal.wrapping_add(1)),
+            self.end(literal),
         )
     }
 
     /// Returns the number of the clause whose other literals stand at this place.
     #[inline(always)]
-    pub fn id(&self, place: u32) -> u32 {
-        at(self.ids.as_slice(), place, 0)
+    pub fn id(&self, place: u32) -> ClauseId {
+        at(self.ids.as_slice(), place, ClauseId::NONE)
     }
 }

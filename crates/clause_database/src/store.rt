@@ -2,6 +2,8 @@
 //! propagation one more load.
 
 use crate::reason::ReasonClause;
+use proof_log::ClauseId;
+use proof_log::codes::LiteralCode;
 use std::alloc::{AllocError, Global};
 use total_tables::{at, piece, put, size};
 
@@ -56,21 +58,29 @@ impl Store {
     /// Adds the clause behind the others, so its offset is what `end` was. `used` is the conflict that counts as its last use.
     pub fn add(
         &mut self,
-        literals: &[u32],
-        id: u32,
+        literals: &[LiteralCode],
+        id: ClauseId,
         lbd: u32,
         used: u32,
     ) -> Result<(), AllocError> {
         let count = size(literals);
-        self.words.extend_from_slice(&[count, id, lbd, used])?;
-        self.words.extend_from_slice(literals)
+        let number = id.number();
+        self.words.extend_from_slice(&[count, number, lbd, used])?;
+        for literal in literals {
+            self.words.push(literal.code())?;
+        }
+        Ok(())
     }
 
     /// Returns the literals of the clause, to be iterated over.
     #[inline(always)]
     pub fn reason(&self, clause: u32) -> ReasonClause {
         let id = at(self.words.as_slice(), clause.wrapping_add(1), 0);
-        ReasonClause::stored(id, clause.wrapping_add(HEADER), self.count(clause))
+        ReasonClause::stored(
+            ClauseId::new(id),
+            clause.wrapping_add(HEADER),
+            self.count(clause),
+        )
     }
 
     /// Returns the number of literals of the clause.
@@ -79,12 +89,9 @@ impl Store {
     }
 
     /// Returns its literal of this number, counted from 0.
-    pub fn literal(&self, clause: u32, number: u32) -> u32 {
-        at(
-            self.words.as_slice(),
-            clause.wrapping_add(HEADER).wrapping_add(number),
-            0,
-        )
+    pub fn literal(&self, clause: u32, number: u32) -> LiteralCode {
+        let place = clause.wrapping_add(HEADER).wrapping_add(number);
+        LiteralCode::new(at(self.words.as_slice(), place, 0))
     }
 
     pub fn lbd(&self, clause: u32) -> u32 {

@@ -1,8 +1,7 @@
 //! Watch lists: which clauses are visited when a literal is falsified.
-//!
-//! A literal is given by its code: twice its variable, plus one if it is negative. So `^ 1` negates it, and `>> 1` gives its variable.
 
 use crate::store::Store;
+use proof_log::codes::{LiteralCode, NEVER};
 use std::alloc::{AllocError, Global};
 use std::mem;
 use total_tables::{at, put, size};
@@ -13,7 +12,7 @@ use total_tables::{at, put, size};
 pub struct Watch {
     /// The offset of the clause in the arena.
     pub clause: u32,
-    pub blocker: u32,
+    pub blocker: LiteralCode,
 }
 
 /// Watch lists by literal. Each clause watches its first two literals. Most order literals are never watched, so a list is allocated when
@@ -31,7 +30,7 @@ pub struct Watches {
 pub fn watch_at(list: &[Watch], place: u32) -> Watch {
     let nothing = Watch {
         clause: 0,
-        blocker: 0,
+        blocker: NEVER,
     };
     at(list, place, nothing)
 }
@@ -63,18 +62,18 @@ impl Watches {
 
     /// Returns the place of the literal's list, or a place past all lists.
     #[inline(always)]
-    fn place(&self, literal: u32) -> usize {
-        at(self.places.as_slice(), literal, 0).wrapping_sub(1) as usize
+    fn place(&self, literal: LiteralCode) -> usize {
+        at(self.places.as_slice(), literal.code(), 0).wrapping_sub(1) as usize
     }
 
     /// Adds the watch to the list of the literal, which is made if there is none.
     #[inline(always)]
-    pub fn add(&mut self, literal: u32, watch: Watch) -> Result<(), AllocError> {
+    pub fn add(&mut self, literal: LiteralCode, watch: Watch) -> Result<(), AllocError> {
         // A literal past the table counts as one that has a list, and that list is not found: nothing is added.
-        if at(self.places.as_slice(), literal, 1) == 0 {
+        if at(self.places.as_slice(), literal.code(), 1) == 0 {
             self.lists.push(Vec::new(self.alloc))?;
             let place = size(self.lists.as_slice());
-            put(self.places.as_mut_slice(), literal, place);
+            put(self.places.as_mut_slice(), literal.code(), place);
         }
         let place = self.place(literal);
         if place < self.lists.len() {
@@ -106,7 +105,7 @@ impl Watches {
     /// Takes the watch list of the literal out, so that other lists can grow while it is iterated over. Until `give_back` none may be added to its own:
     /// that would be lost. Propagation adds none, since the literal is false and a clause goes over to one that is not.
     #[inline(always)]
-    pub fn take(&mut self, literal: u32) -> Vec<Watch> {
+    pub fn take(&mut self, literal: LiteralCode) -> Vec<Watch> {
         let place = self.place(literal);
         if place < self.lists.len() {
             mem::replace(&mut self.lists[place], Vec::new(self.alloc))
@@ -117,7 +116,7 @@ impl Watches {
 
     /// Puts a list that was taken in its place again. What stands there now is dropped.
     #[inline(always)]
-    pub fn give_back(&mut self, literal: u32, list: Vec<Watch>) {
+    pub fn give_back(&mut self, literal: LiteralCode, list: Vec<Watch>) {
         let place = self.place(literal);
         if place < self.lists.len() {
             self.lists[place] = list;
@@ -127,7 +126,7 @@ impl Watches {
     /// Returns whether no clause watches the literal. Propagation asks this before it takes the list of a falsified literal out: many have none, and to take
     /// an empty one out and to put it back would be two writes for nothing.
     #[inline(always)]
-    pub fn is_empty(&self, literal: u32) -> bool {
+    pub fn is_empty(&self, literal: LiteralCode) -> bool {
         let place = self.place(literal);
         place >= self.lists.len() || self.lists[place].is_empty()
     }

@@ -4,10 +4,9 @@
 use crate::elimination::{Elimination, Side};
 use crate::step_log::StepLog;
 use crate::units::UnitTable;
-use proof_log::codes::NEVER;
+use proof_log::codes::{LiteralCode, NEVER};
 use source_matching::{MatchingInstance, OrderClauses, SourceCycle};
 use std::alloc::{AllocError, Global};
-use total_tables::size;
 
 /// Returns the operation of the reader.
 fn operation_of(reads: &MatchingInstance, reader: u32) -> u32 {
@@ -33,7 +32,7 @@ fn add_clause(
     for number in reads.first_choice(reader)..reads.first_choice(reader.wrapping_add(1)) {
         let choice = reads.choice(number);
         if choice.is_excluded {
-            hints.push(units.hint(choice.literal() ^ 1))?;
+            hints.push(units.hint(LiteralCode::new(choice.literal()).negated()))?;
         } else {
             literals.push(elimination.literal(choice.source, operation))?;
             // The first clause of a choice says that the source stands before the reader. With that denied the choice is not made.

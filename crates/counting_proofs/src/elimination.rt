@@ -6,7 +6,8 @@
 
 use crate::step_log::StepLog;
 use order_sets::TripleIds;
-use proof_log::codes::NEVER;
+use proof_log::ClauseId;
+use proof_log::codes::{LiteralCode, NEVER};
 use source_matching::{Grid, OrderClauses};
 use std::alloc::{AllocError, Global};
 use total_tables::{at, put, size};
@@ -28,10 +29,10 @@ pub struct Elimination {
     /// For each operation 1 at those others of which its clause speaks.
     others: Grid<u8>,
     /// For each operation its own literal, or the constant that is never true.
-    own: Vec<u32>,
+    own: Vec<LiteralCode>,
     /// For each operation 1 at those whose own literals its clause has.
     owners: Grid<u8>,
-    clauses: Vec<u32>,
+    clauses: Vec<ClauseId>,
 }
 
 /// Drops the tables in one call. A derived `Drop` would drop each at every exit of a function that owns an elimination, which makes its proof longer.
@@ -57,7 +58,7 @@ impl Elimination {
         order: OrderClauses,
         side: Side,
         operations: Vec<u32>,
-        own: Vec<u32>,
+        own: Vec<LiteralCode>,
     ) -> Result<Elimination, AllocError> {
         let count = size(operations.as_slice());
         Ok(Elimination {
@@ -67,7 +68,7 @@ impl Elimination {
             others: Grid::new(alloc, count, count, 0)?,
             own,
             owners: Grid::new(alloc, count, count, 0)?,
-            clauses: vec![in alloc; 0; operations.len()]?,
+            clauses: vec![in alloc; ClauseId::NONE; operations.len()]?,
             operations,
         })
     }
@@ -86,11 +87,12 @@ impl Elimination {
     }
 
     /// Returns the literal that says that the other one stands on this side of the operation.
-    pub fn literal(&self, other: u32, operation: u32) -> u32 {
-        match self.side {
+    pub fn literal(&self, other: u32, operation: u32) -> LiteralCode {
+        let code = match self.side {
             Side::Before => self.order.before(other, operation),
             Side::Behind => self.order.before(operation, other),
-        }
+        };
+        LiteralCode::new(code)
     }
 
     /// Returns the number of the transitivity clause which says that what stands on this side of the one between stands on this side of the
@@ -104,9 +106,14 @@ impl Elimination {
     }
 
     /// Records the clause of the operation at this place, which has its own literal and speaks of others.
-    pub fn set_clause(&mut self, place: u32, clause: u32) {
+    pub fn set_clause(&mut self, place: u32, clause: ClauseId) {
         put(self.clauses.as_mut_slice(), place, clause);
         self.owners.set(place, place, 1);
+    }
+
+    /// Returns the clause of the operation at this place.
+    fn clause(&self, place: u32) -> ClauseId {
+        at(self.clauses.as_slice(), place, ClauseId::NONE)
     }
 
     /// Records that the clause of the operation at this place speaks of the one at that place.
@@ -128,7 +135,7 @@ impl Elimination {
         let out = at(self.operations.as_slice(), last, 0);
         let mut literals = Vec::new(alloc);
         let mut hints = Vec::new(alloc);
-        hints.push(i64::from(at(self.clauses.as_slice(), place, 0)))?;
+        hints.push(self.clause(place).hint())?;
         for other in 0..last {
             let its = at(self.operations.as_slice(), other, 0);
             if other != place && self.others.get(last, other) == 1 {
@@ -140,7 +147,7 @@ impl Elimination {
             }
         }
         self.add_owners(&mut literals, last, place)?;
-        hints.push(i64::from(at(self.clauses.as_slice(), last, 0)))?;
+        hints.push(self.clause(last).hint())?;
         let id = log.add(literals.as_slice(), hints.as_slice())?;
         put(self.clauses.as_mut_slice(), place, id);
         Ok(())
@@ -149,7 +156,7 @@ impl Elimination {
     /// Adds the own literals of the clauses of both.
     fn add_owners(
         &mut self,
-        literals: &mut Vec<u32>,
+        literals: &mut Vec<LiteralCode>,
         last: u32,
         place: u32,
     ) -> Result<(), AllocError> {
@@ -166,18 +173,18 @@ impl Elimination {
 
     /// Eliminates one operation after the other, and deletes the clauses that no later step needs, so that the checker holds one for each
     /// operation that is left. Returns the number of the clause that is left: one of the own literals is true.
-    pub fn run(&mut self, alloc: Global, log: &mut StepLog) -> Result<u32, AllocError> {
+    pub fn run(&mut self, alloc: Global, log: &mut StepLog) -> Result<ClauseId, AllocError> {
         for last in (1..size(self.operations.as_slice())).rev() {
             let mut old = Vec::new(alloc);
             for place in 0..last {
                 if self.others.get(place, last) == 1 {
-                    old.push(at(self.clauses.as_slice(), place, 0))?;
+                    old.push(self.clause(place))?;
                     self.leave_out(alloc, log, last, place)?;
                 }
             }
-            old.push(at(self.clauses.as_slice(), last, 0))?;
+            old.push(self.clause(last))?;
             log.delete(old.as_slice())?;
         }
-        Ok(at(self.clauses.as_slice(), 0, 0))
+        Ok(self.clause(0))
     }
 }

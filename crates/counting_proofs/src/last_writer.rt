@@ -3,17 +3,19 @@
 use crate::elimination::{Elimination, Side};
 use crate::step_log::StepLog;
 use crate::units::UnitTable;
+use proof_log::ClauseId;
+use proof_log::codes::{LiteralCode, NEVER};
 use source_matching::{KnownOrder, LastWriters, MatchingInstance, Reader};
 use std::alloc::{AllocError, Global};
 use total_tables::{at, size};
 
-/// The definition of each candidate: the code of the literal which says that it is the last writer, the first of the clauses which say that
+/// The definition of each candidate: the literal which says that it is the last writer, the first of the clauses which say that
 /// no other writer comes after it, and the clause which says that one does if it is not the last one.
 #[derive(Clone, Copy)]
 struct Defined {
-    literal: u32,
-    first: u32,
-    only: u32,
+    literal: LiteralCode,
+    first: ClauseId,
+    only: ClauseId,
 }
 
 /// The writers of a location, and what is cited of them.
@@ -39,19 +41,20 @@ fn define_last(
     literals.push(literal)?;
     for writer in ending.writers() {
         if *writer != candidate {
-            literals.push(known.order.before(candidate, *writer))?;
+            literals.push(LiteralCode::new(known.order.before(candidate, *writer)))?;
         }
     }
     let only = log.add(literals.as_slice(), &[])?;
     for writer in ending.writers() {
         if *writer != candidate {
-            let comes_before = known.order.before(*writer, candidate);
-            log.add(&[literal ^ 1, comes_before], &[-i64::from(only)])?;
+            let comes_before = LiteralCode::new(known.order.before(*writer, candidate));
+            let group = -i64::from(only.number());
+            log.add(&[literal.negated(), comes_before], &[group])?;
         }
     }
     Ok(Defined {
         literal,
-        first: only.wrapping_add(1),
+        first: only.next(),
         only,
     })
 }
@@ -85,12 +88,13 @@ fn add_clause(
         let Some(later) = ending.candidate_behind(known, *writer) else {
             continue;
         };
-        hints.push(units.hint(known.order.before(*writer, later)))?;
+        let comes_before = LiteralCode::new(known.order.before(*writer, later));
+        hints.push(units.hint(comes_before))?;
         if later != candidate {
             hints.push(elimination.step(later, *writer, candidate))?;
         }
     }
-    hints.push(i64::from(defined.only))?;
+    hints.push(defined.only.hint())?;
     let clause = log.add(literals.as_slice(), hints.as_slice())?;
     elimination.set_clause(place, clause);
     log.delete(&[defined.only])
@@ -103,17 +107,17 @@ fn with_last_reader(
     reads: &MatchingInstance,
     ending: &LastWriters,
     defined: &[Defined],
-    clause: u32,
+    clause: ClauseId,
 ) -> Result<MatchingInstance, AllocError> {
     let mut all = reads.copied(alloc)?;
     all.add_reader(Reader {
         update: None,
-        clause,
+        clause: clause.number(),
     })?;
     let mut candidate: u32 = 0;
     for its in defined {
-        let variable = its.literal >> 1;
-        all.add_choice(ending.choice(candidate, variable, its.first))?;
+        let variable = its.literal.variable().number();
+        all.add_choice(ending.choice(candidate, variable, its.first.number()))?;
         candidate = candidate.wrapping_add(1);
     }
     Ok(all)
@@ -130,9 +134,9 @@ pub fn add_last_writer(
     units: &UnitTable,
 ) -> Result<MatchingInstance, AllocError> {
     let nothing = Defined {
-        literal: 0,
-        first: 0,
-        only: 0,
+        literal: NEVER,
+        first: ClauseId::NONE,
+        only: ClauseId::NONE,
     };
     let mut defined = Vec::new(alloc);
     let mut own = Vec::new(alloc);

@@ -1,22 +1,23 @@
 //! Implied steps, and definitions of new variables (extended resolution).
 
-use crate::codes::{ALWAYS, is_tautology};
+use crate::codes::is_tautology;
 use crate::replay::{Replay, ShortClause};
 use crate::step_log::StepLog;
 use lrat_check::derivation::Derivation;
-use proof_log::codes::NEVER;
+use proof_log::ClauseId;
+use proof_log::codes::{ALWAYS, LiteralCode, NEVER};
 use std::alloc::{AllocError, Global};
 
 /// A literal with the clauses of its definition, in the order in which they are added. A place without a clause has a tautology.
 #[derive(Clone, Copy)]
 pub struct Definition {
-    pub literal: u32,
+    pub literal: LiteralCode,
     pub clauses: [ShortClause; 4],
 }
 
 impl Definition {
     /// Returns the definition of a literal that stands for itself: it has no clauses.
-    pub fn same(literal: u32) -> Definition {
+    pub fn same(literal: LiteralCode) -> Definition {
         Definition {
             literal,
             clauses: [ShortClause::tautology(); 4],
@@ -26,13 +27,13 @@ impl Definition {
 
 /// Returns the hint that begins a group for the clause. Here a group has no further hints, since the resolvent with its clause is a tautology.
 fn group(known: ShortClause) -> i64 {
-    -i64::from(known.id)
+    -i64::from(known.id.number())
 }
 
 /// Adds the numbers of those of the clauses that have one.
-pub fn add_ids(ids: &mut Vec<u32>, clauses: &[ShortClause]) -> Result<(), AllocError> {
+pub fn add_ids(ids: &mut Vec<ClauseId>, clauses: &[ShortClause]) -> Result<(), AllocError> {
     for known in clauses {
-        if known.id != 0 {
+        if known.id != ClauseId::NONE {
             ids.push(known.id)?;
         }
     }
@@ -45,7 +46,7 @@ pub struct ProofWriter {
     log: StepLog,
     replay: Replay,
     /// The clause of the step at hand.
-    literals: [u32; 3],
+    literals: [LiteralCode; 3],
 }
 
 impl ProofWriter {
@@ -70,7 +71,7 @@ impl ProofWriter {
     }
 
     /// Begins the step of this clause.
-    pub fn begin(&mut self, literals: [u32; 3]) -> Result<(), AllocError> {
+    pub fn begin(&mut self, literals: [LiteralCode; 3]) -> Result<(), AllocError> {
         self.literals = literals;
         self.replay.begin(literals)
     }
@@ -85,7 +86,7 @@ impl ProofWriter {
     ///
     /// It is for clauses that the caller knows by number alone, as those of the formula: one on a reader's choices may have more literals than a
     /// `ShortClause` has room for. The step then counts as complete, and only the checker would find that it is not.
-    pub fn add_hint(&mut self, id: u32) -> Result<(), AllocError> {
+    pub fn add_hint(&mut self, id: ClauseId) -> Result<(), AllocError> {
         self.replay.add_unchecked(id)
     }
 
@@ -109,7 +110,7 @@ impl ProofWriter {
     /// again, so each must stand behind those that make it unit.
     pub fn derive(
         &mut self,
-        literals: [u32; 3],
+        literals: [LiteralCode; 3],
         hints: &[ShortClause],
     ) -> Result<ShortClause, AllocError> {
         self.begin(literals)?;
@@ -124,16 +125,16 @@ impl ProofWriter {
     /// negation, and is no constant. The first clause that is opposed may be a tautology alone, the second only if both are.
     fn define(
         &mut self,
-        literals: [u32; 3],
+        literals: [LiteralCode; 3],
         opposed: (ShortClause, ShortClause),
     ) -> Result<ShortClause, AllocError> {
         if literals[1] == ALWAYS || literals[2] == ALWAYS {
             return Ok(ShortClause::tautology());
         }
         let (first, second) = opposed;
-        let id = if second.id == 0 {
+        let id = if second.id == ClauseId::NONE {
             self.log.add(&literals, &[])?
-        } else if first.id == 0 {
+        } else if first.id == ClauseId::NONE {
             self.log.add(&literals, &[group(second)])?
         } else {
             self.log.add(&literals, &[group(first), group(second)])?
@@ -142,7 +143,11 @@ impl ProofWriter {
     }
 
     /// Defines a literal that is true if one of two is. If one is a constant or both are the same, that takes no variable and no line.
-    pub fn define_or(&mut self, first: u32, second: u32) -> Result<Definition, AllocError> {
+    pub fn define_or(
+        &mut self,
+        first: LiteralCode,
+        second: LiteralCode,
+    ) -> Result<Definition, AllocError> {
         if first == NEVER {
             return Ok(Definition::same(second));
         }
@@ -151,9 +156,9 @@ impl ProofWriter {
         }
         let nothing = (ShortClause::tautology(), ShortClause::tautology());
         let literal = self.log.new_variable();
-        let by_first = self.define([literal, first ^ 1, NEVER], nothing)?;
-        let by_second = self.define([literal, second ^ 1, NEVER], nothing)?;
-        let only = self.define([literal ^ 1, first, second], (by_first, by_second))?;
+        let by_first = self.define([literal, first.negated(), NEVER], nothing)?;
+        let by_second = self.define([literal, second.negated(), NEVER], nothing)?;
+        let only = self.define([literal.negated(), first, second], (by_first, by_second))?;
         Ok(Definition {
             literal,
             clauses: [by_first, by_second, only, ShortClause::tautology()],
@@ -164,8 +169,8 @@ impl ProofWriter {
     /// readers have one of the first sources if k of those before the last of them have, or if k - 1 have and the last one has one too.
     pub fn define_either(
         &mut self,
-        alone: u32,
-        together: (u32, u32),
+        alone: LiteralCode,
+        together: (LiteralCode, LiteralCode),
     ) -> Result<Definition, AllocError> {
         let (one, other) = together;
         // With a part that is never true `by_both` would be a tautology, and `define` would then leave out the group of `by_alone` too.
@@ -180,11 +185,11 @@ impl ProofWriter {
         }
         let nothing = (ShortClause::tautology(), ShortClause::tautology());
         let literal = self.log.new_variable();
-        let by_alone = self.define([literal, alone ^ 1, NEVER], nothing)?;
-        let by_both = self.define([literal, one ^ 1, other ^ 1], nothing)?;
+        let by_alone = self.define([literal, alone.negated(), NEVER], nothing)?;
+        let by_both = self.define([literal, one.negated(), other.negated()], nothing)?;
         let opposed = (by_alone, by_both);
-        let needs_one = self.define([literal ^ 1, alone, one], opposed)?;
-        let needs_other = self.define([literal ^ 1, alone, other], opposed)?;
+        let needs_one = self.define([literal.negated(), alone, one], opposed)?;
+        let needs_other = self.define([literal.negated(), alone, other], opposed)?;
         Ok(Definition {
             literal,
             clauses: [by_alone, by_both, needs_one, needs_other],

@@ -9,7 +9,7 @@ use crate::shortages::add_shortage;
 use crate::step_log::{Free, StepLog};
 use crate::units::UnitTable;
 use lrat_check::derivation::{Derivation, Step};
-use proof_log::within;
+use proof_log::{ClauseId, within};
 use source_matching::{Kind, KnownOrder, MatchingInstance, SourceContradiction};
 use std::alloc::{AllocError, Global};
 
@@ -19,7 +19,7 @@ use std::alloc::{AllocError, Global};
 pub struct Premises<'a> {
     pub steps: Vec<Step>,
     /// The numbers of the unit clauses, in the order of the contradiction's `rests_on`.
-    pub clauses: &'a [u32],
+    pub clauses: &'a [ClauseId],
     /// The numbers that the formula and the steps leave free. The additions of the steps have smaller ones.
     pub free: Free,
 }

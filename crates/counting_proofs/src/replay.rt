@@ -1,23 +1,23 @@
 //! The hints of a step, found by unit propagation.
 
-use crate::codes::ALWAYS;
-use proof_log::codes::NEVER;
+use proof_log::ClauseId;
+use proof_log::codes::{ALWAYS, LiteralCode, NEVER};
 use std::alloc::{AllocError, Global};
 
 /// A clause of at most three literals that may be a hint.
 #[derive(Clone, Copy)]
 pub struct ShortClause {
-    /// Its number, or 0 if it is a tautology.
-    pub id: u32,
+    /// Its number, or none if it is a tautology.
+    pub id: ClauseId,
     /// Its literals, filled up with the constant that is never true.
-    pub literals: [u32; 3],
+    pub literals: [LiteralCode; 3],
 }
 
 impl ShortClause {
     /// Returns a tautology. It is no hint.
     pub fn tautology() -> ShortClause {
         ShortClause {
-            id: 0,
+            id: ClauseId::NONE,
             literals: [ALWAYS; 3],
         }
     }
@@ -27,8 +27,8 @@ impl ShortClause {
 /// only.
 #[derive(Drop)]
 pub struct Replay {
-    /// The codes of the literals that are true. `ALWAYS` is the first of them, so the constant that fills up a clause counts as false.
-    trues: Vec<u32>,
+    /// The literals that are true. `ALWAYS` is the first of them, so the constant that fills up a clause counts as false.
+    trues: Vec<LiteralCode>,
     hints: Vec<i64>,
     /// Whether a conflict was reached: a clause all of whose literals are false.
     has_conflict: bool,
@@ -45,30 +45,30 @@ impl Replay {
     }
 
     /// Begins with the literals of this clause as false, and nothing else known.
-    pub fn begin(&mut self, literals: [u32; 3]) -> Result<(), AllocError> {
+    pub fn begin(&mut self, literals: [LiteralCode; 3]) -> Result<(), AllocError> {
         self.has_conflict = false;
         self.hints.clear();
         self.trues.clear();
         self.trues.push(ALWAYS)?;
         for literal in literals {
-            self.trues.push(literal ^ 1)?;
+            self.trues.push(literal.negated())?;
         }
         Ok(())
     }
 
-    fn is_true(&self, literal: u32) -> bool {
+    fn is_true(&self, literal: LiteralCode) -> bool {
         self.trues.as_slice().iter().any(|other| *other == literal)
     }
 
     /// Returns `NEVER` if all literals of the clause are false, and its literal if exactly one is open. Returns `None` if a literal is
     /// true, or if two are open.
-    fn unit_or_conflict(&self, known: ShortClause) -> Option<u32> {
+    fn unit_or_conflict(&self, known: ShortClause) -> Option<LiteralCode> {
         let mut left = NEVER;
         for literal in known.literals {
             if self.is_true(literal) {
                 return None;
             }
-            if self.is_true(literal ^ 1) || literal == left {
+            if self.is_true(literal.negated()) || literal == left {
                 continue;
             }
             if left != NEVER {
@@ -82,7 +82,7 @@ impl Replay {
     /// Adds the clause as a hint if it is unit or false. A unit clause makes its literal true; a false one is a conflict, after which no
     /// more hints are added. Any other clause is left out, since the checker refuses it as a hint.
     pub fn propagate(&mut self, known: ShortClause) -> Result<(), AllocError> {
-        if self.has_conflict || known.id == 0 {
+        if self.has_conflict || known.id == ClauseId::NONE {
             return Ok(());
         }
         let Some(left) = self.unit_or_conflict(known) else {
@@ -91,15 +91,15 @@ impl Replay {
         if left == NEVER {
             return self.add_unchecked(known.id);
         }
-        self.hints.push(i64::from(known.id))?;
+        self.hints.push(known.id.hint())?;
         self.trues.push(left)?;
         Ok(())
     }
 
     /// Adds the clause of this number as a hint without a look at its literals, which the caller knows. The last one that is added so is
     /// the conflict, and any before it are unit. It counts as a conflict at once, so `propagate` adds nothing after it.
-    pub fn add_unchecked(&mut self, id: u32) -> Result<(), AllocError> {
-        self.hints.push(i64::from(id))?;
+    pub fn add_unchecked(&mut self, id: ClauseId) -> Result<(), AllocError> {
+        self.hints.push(id.hint())?;
         self.has_conflict = true;
         Ok(())
     }

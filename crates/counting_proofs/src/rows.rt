@@ -1,10 +1,10 @@
 //! Counts of the first readers that have one of the first sources: a row for each reader.
 
-use crate::codes::ALWAYS;
 use crate::proof_writer::{Definition, ProofWriter, add_ids};
 use crate::replay::ShortClause;
 use crate::taken::{Taken, has_source};
-use proof_log::codes::NEVER;
+use proof_log::ClauseId;
+use proof_log::codes::{ALWAYS, LiteralCode, NEVER};
 use source_matching::{Grid, HallViolator, MatchingInstance};
 use std::alloc::{AllocError, Global};
 
@@ -71,7 +71,7 @@ impl CountRow {
     /// Returns the literal that says that at least `count` of the readers have one of the sources up to this one. Most are constants and get
     /// no variable: of n sources about a sixth of the cube of n are left. At most the sources after this one serve readers besides, one each: so a
     /// count that leaves out no more readers than these is always reached.
-    fn at_least(&self, count: u32, source: u32) -> u32 {
+    fn at_least(&self, count: u32, source: u32) -> LiteralCode {
         if count > self.reader {
             return NEVER;
         }
@@ -96,7 +96,7 @@ impl CountRow {
     }
 
     /// Returns the literal that says that the reader has one of the sources up to this one.
-    fn is_served(&self, source: u32) -> u32 {
+    fn is_served(&self, source: u32) -> LiteralCode {
         if source == self.sources {
             ALWAYS
         } else {
@@ -138,7 +138,7 @@ impl CountRow {
         writer: &mut ProofWriter,
         reads: &MatchingInstance,
         shortage: &HallViolator,
-        clause: u32,
+        clause: ClauseId,
     ) -> Result<(), AllocError> {
         let mut before = NEVER;
         for source in 1..self.sources {
@@ -208,8 +208,8 @@ impl CountRow {
         for source in 1..=last {
             let previous = source.wrapping_sub(1);
             let literals = [
-                before.at_least(source, source) ^ 1,
-                self.is_served(source) ^ 1,
+                before.at_least(source, source).negated(),
+                self.is_served(source).negated(),
                 NEVER,
             ];
             let hints = [
@@ -256,7 +256,7 @@ impl CountRow {
             let least = self.least_open(source).wrapping_sub(1).max(1);
             for count in least..=self.reader.min(source) {
                 let literals = [
-                    self.at_least(count, source) ^ 1,
+                    self.at_least(count, source).negated(),
                     definition.literal,
                     self.at_least(count, previous),
                 ];
@@ -291,7 +291,7 @@ impl CountRow {
             for count in self.least_open(source).max(2)..=self.reader.min(source) {
                 let fewer = count.wrapping_sub(1);
                 let literals = [
-                    self.at_least(count, source) ^ 1,
+                    self.at_least(count, source).negated(),
                     self.at_least(fewer, previous),
                     NEVER,
                 ];
@@ -315,7 +315,7 @@ impl CountRow {
 
     /// Adds the numbers of the clauses that only this row needs. They are deleted with it, so a checker holds about 4 n² lines of n sources at
     /// a time, and not all that grow with the cube.
-    pub fn add_own_ids(&self, ids: &mut Vec<u32>) -> Result<(), AllocError> {
+    pub fn add_own_ids(&self, ids: &mut Vec<ClauseId>) -> Result<(), AllocError> {
         for definition in self.served.items() {
             add_ids(ids, &definition.clauses)?;
         }
@@ -326,7 +326,7 @@ impl CountRow {
     }
 
     /// Adds the numbers of the clauses that the next row needs too.
-    pub fn add_lasting_ids(&self, ids: &mut Vec<u32>) -> Result<(), AllocError> {
+    pub fn add_lasting_ids(&self, ids: &mut Vec<ClauseId>) -> Result<(), AllocError> {
         add_ids(ids, self.without_last.items())?;
         add_ids(ids, self.one_fewer.items())
     }

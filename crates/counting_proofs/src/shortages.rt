@@ -4,6 +4,8 @@ use crate::proof_writer::ProofWriter;
 use crate::rows::CountRow;
 use crate::taken::Taken;
 use crate::units::UnitTable;
+use proof_log::ClauseId;
+use proof_log::codes::LiteralCode;
 use source_matching::{HallViolator, MatchingInstance};
 use std::alloc::{AllocError, Global};
 
@@ -22,23 +24,24 @@ fn open_clause(
     writer: &mut ProofWriter,
     cited: Cited<'_>,
     reader: u32,
-) -> Result<u32, AllocError> {
+) -> Result<ClauseId, AllocError> {
     let Cited { reads, units, .. } = cited;
-    let clause = reads.reader(reader).clause;
+    let clause = ClauseId::new(reads.reader(reader).clause);
     let mut literals = Vec::new(alloc);
     let mut hints = Vec::new(alloc);
     for number in reads.first_choice(reader)..reads.first_choice(reader.wrapping_add(1)) {
         let choice = reads.choice(number);
+        let literal = LiteralCode::new(choice.literal());
         if choice.is_excluded {
-            hints.push(units.hint(choice.literal() ^ 1))?;
+            hints.push(units.hint(literal.negated()))?;
         } else {
-            literals.push(choice.literal())?;
+            literals.push(literal)?;
         }
     }
     if hints.is_empty() {
         return Ok(clause);
     }
-    hints.push(i64::from(clause))?;
+    hints.push(clause.hint())?;
     writer.log().add(literals.as_slice(), hints.as_slice())
 }
 
@@ -71,7 +74,7 @@ fn add_row(
     row.add_one_fewer(writer, taken, before)?;
     let mut old = Vec::new(alloc);
     // Only a clause that `open_clause` has added is deleted, and not one that was there before.
-    if clause != reads.reader(number).clause {
+    if clause.number() != reads.reader(number).clause {
         old.push(clause)?;
     }
     row.add_own_ids(&mut old)?;
@@ -117,7 +120,7 @@ pub fn add_shortage(
     // One reader without an open choice: what is left of its clause is empty.
     if shortage.sources() == 0 {
         let clause = open_clause(alloc, writer, cited, shortage.reader(1))?;
-        let _id = writer.log().add(&[], &[i64::from(clause)])?;
+        let _id = writer.log().add(&[], &[clause.hint()])?;
         return Ok(());
     }
     let taken = Taken::of(alloc, writer, reads, shortage)?;

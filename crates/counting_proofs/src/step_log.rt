@@ -4,16 +4,17 @@ use dimacs::{Clause, Lit, MAX_VARIABLE};
 use lrat_check::derivation::{Derivation, Step};
 use lrat_check::hints::Hints;
 use lrat_check::ids::Ids;
-use proof_log::codes::{NEVER, literal_of};
+use proof_log::ClauseId;
+use proof_log::codes::{LiteralCode, NEVER, Variable, literal_of};
 use std::alloc::{AllocError, Global};
 
 /// The first free numbers: all above them are free too.
 #[derive(Clone, Copy)]
 pub struct Free {
     /// The number of the next clause.
-    pub clause: u32,
+    pub clause: ClauseId,
     /// The next variable.
-    pub variable: u32,
+    pub variable: Variable,
 }
 
 /// The steps of a derivation up to a bound. What does not fit is left out, and then there is no derivation: one past
@@ -23,8 +24,8 @@ pub struct StepLog {
     alloc: Global,
     steps: Vec<Step>,
     /// The number of the next clause. It grows for clauses that are left out too.
-    next_id: u32,
-    next_variable: u32,
+    next_id: ClauseId,
+    next_variable: Variable,
     /// Number of further steps for which there is room.
     left: u64,
     /// Whether nothing was left out.
@@ -33,7 +34,7 @@ pub struct StepLog {
 
 /// Returns the literals of these codes, each once, without the constant that is never true: steps of three literals are filled up with it, and
 /// at the border of a count two of them may be the same.
-fn literals_of(alloc: Global, codes: &[u32]) -> Result<Vec<Lit>, AllocError> {
+fn literals_of(alloc: Global, codes: &[LiteralCode]) -> Result<Vec<Lit>, AllocError> {
     let mut literals: Vec<Lit> = Vec::with_capacity(alloc, codes.len())?;
     for code in codes {
         let literal = literal_of(*code);
@@ -58,14 +59,14 @@ impl StepLog {
         }
     }
 
-    /// Returns the code of a new variable.
-    pub fn new_variable(&mut self) -> u32 {
+    /// Returns the literal of a new variable.
+    pub fn new_variable(&mut self) -> LiteralCode {
         let variable = self.next_variable;
-        self.next_variable = variable.wrapping_add(1);
-        if variable > MAX_VARIABLE {
+        self.next_variable = variable.next();
+        if variable.number() > MAX_VARIABLE {
             self.spoil();
         }
-        variable.wrapping_mul(2)
+        variable.positive()
     }
 
     /// Records that there will be no derivation.
@@ -85,12 +86,12 @@ impl StepLog {
     }
 
     /// Adds the clause of these literals with these hints. Returns its number.
-    pub fn add(&mut self, literals: &[u32], hints: &[i64]) -> Result<u32, AllocError> {
+    pub fn add(&mut self, literals: &[LiteralCode], hints: &[i64]) -> Result<ClauseId, AllocError> {
         let id = self.next_id;
-        self.next_id = id.wrapping_add(1);
+        self.next_id = id.next();
         let literals = literals_of(self.alloc, literals)?;
         self.push(Step::Addition {
-            id: u64::from(id),
+            id: u64::from(id.number()),
             literals: Clause::from_slice(self.alloc, literals.as_slice())?,
             hints: Hints::compact(self.alloc, hints)?,
         })?;
@@ -98,13 +99,13 @@ impl StepLog {
     }
 
     /// Deletes the clauses of these numbers.
-    pub fn delete(&mut self, ids: &[u32]) -> Result<(), AllocError> {
+    pub fn delete(&mut self, ids: &[ClauseId]) -> Result<(), AllocError> {
         let mut numbers = Vec::with_capacity(self.alloc, ids.len())?;
         for id in ids {
-            numbers.push(u64::from(*id))?;
+            numbers.push(u64::from(id.number()))?;
         }
         self.push(Step::Deletion {
-            first: u64::from(self.next_id),
+            first: u64::from(self.next_id.number()),
             ids: Ids::from_slice(self.alloc, numbers.as_slice())?,
         })
     }

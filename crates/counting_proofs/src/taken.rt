@@ -2,7 +2,8 @@
 
 use crate::proof_writer::{Definition, ProofWriter, add_ids};
 use crate::replay::ShortClause;
-use proof_log::codes::NEVER;
+use proof_log::ClauseId;
+use proof_log::codes::{LiteralCode, NEVER};
 use source_matching::{Grid, HallViolator, MatchingInstance};
 use std::alloc::{AllocError, Global};
 use total_tables::{at, put};
@@ -25,9 +26,9 @@ pub fn has_source(
     shortage: &HallViolator,
     reader: u32,
     source: u32,
-) -> u32 {
+) -> LiteralCode {
     match shortage.choice(reader, source) {
-        Some(choice) => reads.choice(choice).literal(),
+        Some(choice) => LiteralCode::new(reads.choice(choice).literal()),
         None => NEVER,
     }
 }
@@ -49,14 +50,14 @@ fn add_pair(
     let numbers = (shortage.reader(readers.0), shortage.reader(readers.1));
     let hints = reads.hints_of_pair(numbers, (first, second));
     let literals = [
-        reads.choice(first).literal() ^ 1,
-        reads.choice(second).literal() ^ 1,
+        LiteralCode::new(reads.choice(first).literal()).negated(),
+        LiteralCode::new(reads.choice(second).literal()).negated(),
         NEVER,
     ];
     writer.begin(literals)?;
     for hint in hints {
         if hint != 0 {
-            writer.add_hint(hint)?;
+            writer.add_hint(ClauseId::new(hint))?;
         }
     }
     writer.add()
@@ -107,10 +108,11 @@ impl Taken {
                 let before = self.literal(reader.wrapping_sub(1), source);
                 let definition = writer.define_or(before, literal)?;
                 self.definitions.set(reader, source, definition);
-                old.push(definition.clauses[2].id)?;
+                let only = definition.clauses[2];
+                old.push(only.id)?;
             }
         }
-        old.retain(|id| *id != 0);
+        old.retain(|id| *id != ClauseId::NONE);
         writer.log().delete(old.as_slice())
     }
 
@@ -121,11 +123,11 @@ impl Taken {
         writer: &mut ProofWriter,
         reader: u32,
         source: u32,
-        literal: u32,
+        literal: LiteralCode,
         pairs: &[ShortClause],
     ) -> Result<(), AllocError> {
         let before = self.literal(reader.wrapping_sub(1), source);
-        writer.begin([before ^ 1, literal ^ 1, NEVER])?;
+        writer.begin([before.negated(), literal.negated(), NEVER])?;
         for other in (1..reader).rev() {
             writer.offer(at(pairs, other, ShortClause::tautology()))?;
             writer.offer(self.definitions.get(other, source).clauses[2])?;
@@ -136,7 +138,7 @@ impl Taken {
     }
 
     /// Returns the literal that says that one of the readers up to this one has the source.
-    pub fn literal(&self, reader: u32, source: u32) -> u32 {
+    pub fn literal(&self, reader: u32, source: u32) -> LiteralCode {
         self.definitions.get(reader, source).literal
     }
 
@@ -151,7 +153,7 @@ impl Taken {
     }
 
     /// Adds the numbers of the clauses on this reader.
-    pub fn add_row_ids(&self, reader: u32, ids: &mut Vec<u32>) -> Result<(), AllocError> {
+    pub fn add_row_ids(&self, reader: u32, ids: &mut Vec<ClauseId>) -> Result<(), AllocError> {
         for source in 0..self.columns {
             let definition = self.definitions.get(reader, source);
             add_ids(ids, &definition.clauses[..2])?;

@@ -5,6 +5,7 @@ ghost use Rattle.proof_log.specs.Answers.{IsWithin};
 ghost use Rattle.proof_log.specs.Outcomes.{TakesConflict};
 
 use crate::answer::Answer;
+use crate::clause_id::ClauseId;
 use crate::learner::{Learner, SharingLearner};
 use crate::limit::refuted_within;
 use crate::proof_log::ProofLog;
@@ -28,7 +29,7 @@ pub struct Attempt<S> {
 
 impl<S: Learner + Drop> Attempt<S> {
     /// Starts with this search and an empty log, whose first addition will have this number.
-    pub fn new(alloc: Global, search: S, first: u32) -> Attempt<S>
+    pub fn new(alloc: Global, search: S, first: ClauseId) -> Attempt<S>
         ensures { result.log ≡ 0 }
     {
         Attempt {
@@ -75,7 +76,7 @@ impl<S: Learner + Drop> Attempt<S> {
     }
 
     /// Returns the log, and begins an empty one, whose first addition will have this number.
-    pub fn begin_log(&mut self, first: u32) -> ProofLog
+    pub fn begin_log(&mut self, first: ClauseId) -> ProofLog
         ensures taken { result ≡ self.old.log }
         ensures empty { self.new.log ≡ 0 }
     {

@@ -1,29 +1,115 @@
-//! Literals as places in tables.
-//!
-//! A literal's code is twice its variable, plus one if it is negative: `code ^ 1` is its negation, `code >> 1` its variable. No variable is
-//! 0, so the code 0 is free: it stands for a literal that is never true.
+//! Literals and variables by their numbers, each kind with a type of its own.
 
 use dimacs::Lit;
 
-/// A literal that is never true. It fills up clauses of fewer literals.
-pub const NEVER: u32 = 0;
+/// The number of a variable of a formula, from 1.
+#[derive(Clone, Copy, PartialEq, Eq)]
+pub struct Variable {
+    number: u32,
+}
 
-/// Returns the code of the literal.
-#[inline(always)]
-pub fn code_of(literal: Lit) -> u32 {
-    let code = literal.variable().wrapping_mul(2);
-    if literal.is_positive() {
-        code
-    } else {
-        code | 1
+/// A literal as a place in tables: twice its variable, plus one if it is negative. Only this type takes a code apart.
+#[derive(Clone, Copy, PartialEq, Eq)]
+pub struct LiteralCode {
+    code: u32,
+}
+
+// No variable is 0, so two codes are free for constants.
+
+/// A literal that is never true. It fills up clauses of fewer literals.
+pub const NEVER: LiteralCode = LiteralCode { code: 0 };
+
+/// A literal that is always true: the negation of the one that is never true.
+pub const ALWAYS: LiteralCode = LiteralCode { code: 1 };
+
+impl Variable {
+    /// No variable.
+    pub const NONE: Variable = Variable { number: 0 };
+
+    #[inline(always)]
+    pub fn new(number: u32) -> Variable {
+        Variable { number }
+    }
+
+    #[inline(always)]
+    pub fn number(self) -> u32 {
+        self.number
+    }
+
+    /// The variable behind this one.
+    #[inline(always)]
+    pub fn next(self) -> Variable {
+        Variable::new(self.number.wrapping_add(1))
+    }
+
+    /// The literal that is true if the variable is.
+    #[inline(always)]
+    pub fn positive(self) -> LiteralCode {
+        LiteralCode::new(self.number.wrapping_mul(2))
+    }
+
+    /// The literal that is true if the variable is false.
+    #[inline(always)]
+    pub fn negative(self) -> LiteralCode {
+        LiteralCode::new(self.number.wrapping_mul(2) | 1)
     }
 }
 
-/// Returns the literal of the code. The codes 0 and 1 are of no variable and would give literals of the variable 1, so callers leave them out before.
-pub fn literal_of(code: u32) -> Lit {
-    let number = i32::try_from(code >> 1).unwrap_or(0);
+impl LiteralCode {
+    #[inline(always)]
+    pub fn new(code: u32) -> LiteralCode {
+        LiteralCode { code }
+    }
+
+    /// The literal of this variable and this sign.
+    #[inline(always)]
+    pub fn of(variable: Variable, is_positive: bool) -> LiteralCode {
+        if is_positive {
+            variable.positive()
+        } else {
+            variable.negative()
+        }
+    }
+
+    /// The number of literals over this many variables, those that are constants among them.
+    #[inline(always)]
+    pub fn count_over(variables: u32) -> u32 {
+        variables.wrapping_mul(2).wrapping_add(2)
+    }
+
+    #[inline(always)]
+    pub fn code(self) -> u32 {
+        self.code
+    }
+
+    #[inline(always)]
+    pub fn variable(self) -> Variable {
+        Variable::new(self.code >> 1)
+    }
+
+    #[inline(always)]
+    pub fn negated(self) -> LiteralCode {
+        LiteralCode::new(self.code ^ 1)
+    }
+
+    #[inline(always)]
+    pub fn is_positive(self) -> bool {
+        self.code & 1 == 0
+    }
+}
+
+/// Returns the code of the literal.
+#[inline(always)]
+pub fn code_of(literal: Lit) -> LiteralCode {
+    LiteralCode::of(Variable::new(literal.variable()), literal.is_positive())
+}
+
+/// Returns the literal of the code. The codes of the two constants are of no variable and would give literals of the variable 1, so callers leave them
+/// out before.
+pub fn literal_of(code: LiteralCode) -> Lit {
+    let number = i32::try_from(code.variable().number()).unwrap_or(0);
     let literal = Lit::new(number).unwrap_or_default();
-    if code & 1 == 0 {
+    if code.is_positive() {
         literal
     } else {
         literal.negated()

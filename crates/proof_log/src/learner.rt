@@ -1,5 +1,7 @@
 //! The interface of a clause-learning search to its budget.
 
+use crate::clause_id::ClauseId;
+use crate::codes::LiteralCode;
 use crate::proof_log::ProofLog;
 use crate::shared_clauses::SharedClauses;
 use dimacs::Assignment;
@@ -18,13 +20,13 @@ pub trait Learner {
     fn learn(&mut self) -> Result<(), AllocError>;
 
     /// Returns the literals of the last learned clause, by their codes.
-    fn learned(&self) -> &[u32];
+    fn learned(&self) -> &[LiteralCode];
 
     /// Returns the LRAT hints of the last learned clause, as ids of clauses.
-    fn hints(&self) -> &[u32];
+    fn hints(&self) -> &[ClauseId];
 
     /// Backjumps and asserts the last learned clause, which has this id.
-    fn go_on(&mut self, id: u32) -> Result<(), AllocError>;
+    fn go_on(&mut self, id: ClauseId) -> Result<(), AllocError>;
 
     /// Backtracks to level 0, and looks there for a derivation of at most `budget` steps that takes no further conflict. The log has what
     /// was learned.

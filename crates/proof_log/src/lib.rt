@@ -9,7 +9,7 @@
 //!   such searches one after the other, and makes one derivation of them.
 //! - `CubeSolver` is what answers the cubes of a formula, each within a budget.
 //! - `within` and `refuted_within` keep derivations that no search has made to a budget.
-//! - `codes` says how literals are written as numbers.
+//! - `codes` says how literals and variables are written as numbers, and `ClauseId` is the number of a clause.
 //!
 //! So what is proved of an answer, that it keeps to its budget, is proved here, whatever the search does. Whether a derivation is right the
 //! checker decides.
@@ -17,6 +17,7 @@
 
 mod answer;
 mod attempt;
+mod clause_id;
 pub mod codes;
 mod cube_solver;
 mod learner;
@@ -28,6 +29,7 @@ mod shared_clauses;
 
 pub use answer::Answer;
 pub use attempt::{Attempt, TURN, search_alone, take_turns};
+pub use clause_id::ClauseId;
 pub use cube_solver::CubeSolver;
 pub use learner::{Learner, SharingLearner};
 pub use limit::{refuted_within, within};

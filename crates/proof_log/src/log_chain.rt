@@ -2,8 +2,9 @@
 
 ghost use Rattle.std.specs.Prelude.{◌≡◌, ◌≤◌, ◌+◌, length, IfOk, OnOk};
 
+use crate::clause_id::ClauseId;
 use crate::proof_log::{ProofLog, mark};
-use lrat_check::derivation::{Derivation, Step};
+use lrat_check::derivation::Derivation;
 use std::alloc::{AllocError, Global};
 use std::marker::Model;
 
@@ -11,7 +12,7 @@ use std::marker::Model;
 /// the number of all additions.
 pub struct LogChain {
     /// The number of the first addition.
-    first: u32,
+    first: ClauseId,
     logs: Vec<ProofLog>,
 }
 
@@ -36,7 +37,7 @@ impl Model for LogChain {
 
 impl LogChain {
     /// Starts without logs. No addition has a number below this one.
-    pub fn new(alloc: Global, first: u32) -> LogChain
+    pub fn new(alloc: Global, first: ClauseId) -> LogChain
         ensures { result ≡ 0 }
     {
         LogChain {
@@ -57,14 +58,14 @@ impl LogChain {
     fn width(&self) -> u32 {
         let mut width = 0;
         for log in &self.logs {
-            width = width.max(log.next_id().wrapping_sub(self.first));
+            width = width.max(log.next_id().since(self.first));
         }
         width
     }
 
     /// Returns 1 for each addition on which the clause of this number rests, by its number from the first one on. The logs are asked from the last one
     /// back, since an addition rests on those of its own log and of earlier ones.
-    fn needed(&self, alloc: Global, clause: u32) -> Result<Vec<u8>, AllocError> {
+    fn needed(&self, alloc: Global, clause: ClauseId) -> Result<Vec<u8>, AllocError> {
         let mut needed = vec![in alloc; 0; self.width() as usize]?;
         mark(&[clause], self.first, needed.as_mut_slice());
         for log in self.logs.iter().rev() {
@@ -75,7 +76,7 @@ impl LogChain {
 
     /// Returns the derivation of the clause of this number, trimmed to the additions on which it rests. If there is no memory to mark these, it has
     /// all of them.
-    pub fn derivation(&self, alloc: Global, clause: u32) -> Result<Derivation, AllocError>
+    pub fn derivation(&self, alloc: Global, clause: ClauseId) -> Result<Derivation, AllocError>
         ensures { IfOk result (λ derivation. length derivation ≤ self.now) }
     {
         let needed = match self.needed(alloc, clause) {

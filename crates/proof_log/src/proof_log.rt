@@ -5,7 +5,8 @@
 
 ghost use Rattle.std.specs.Prelude.{◌≡◌, ◌≤◌, ◌+◌, length, IfOk, OnOk};
 
-use crate::codes::literal_of;
+use crate::clause_id::ClauseId;
+use crate::codes::{LiteralCode, literal_of};
 use dimacs::Clause;
 use lrat_check::derivation::{Derivation, Step};
 use lrat_check::hints::Hints;
@@ -22,10 +23,10 @@ struct End {
 
 /// Marks those of these clauses that have this number or a larger one, by their numbers from that one on. The others have no mark: they are of the
 /// formula or of an earlier log.
-pub(crate) fn mark(clauses: &[u32], from: u32, marks: &mut [u8]) {
+pub(crate) fn mark(clauses: &[ClauseId], from: ClauseId, marks: &mut [u8]) {
     for clause in clauses {
         if *clause >= from {
-            put(marks, clause.wrapping_sub(from), 1);
+            put(marks, clause.since(from), 1);
         }
     }
 }
@@ -34,9 +35,9 @@ pub(crate) fn mark(clauses: &[u32], from: u32, marks: &mut [u8]) {
 /// three lists and become steps at the end, so that a conflict rarely asks for memory.
 pub struct ProofLog {
     /// The number of the first addition.
-    first: u32,
-    literals: Vec<u32>,
-    hints: Vec<u32>,
+    first: ClauseId,
+    literals: Vec<LiteralCode>,
+    hints: Vec<ClauseId>,
     ends: Vec<End>,
 }
 
@@ -62,7 +63,7 @@ impl Model for ProofLog {
 
 impl ProofLog {
     /// Starts empty. The first addition will have this number.
-    pub fn new(alloc: Global, first: u32) -> ProofLog
+    pub fn new(alloc: Global, first: ClauseId) -> ProofLog
         ensures { result ≡ 0 }
     {
         ProofLog {
@@ -81,17 +82,17 @@ impl ProofLog {
     }
 
     /// Returns the number that the first addition has or will have.
-    pub fn first_id(&self) -> u32 {
+    pub fn first_id(&self) -> ClauseId {
         self.first
     }
 
     /// Returns the number of the next addition.
-    pub fn next_id(&self) -> u32 {
-        self.first.wrapping_add(size(self.ends.as_slice()))
+    pub fn next_id(&self) -> ClauseId {
+        self.first.ahead(size(self.ends.as_slice()))
     }
 
     /// Adds the clause of these literals with these hints.
-    pub fn add(&mut self, literals: &[u32], hints: &[u32]) -> Result<(), AllocError>
+    pub fn add(&mut self, literals: &[LiteralCode], hints: &[ClauseId]) -> Result<(), AllocError>
         ensures { OnOk result (self.new ≤ self.old + 1) }
     {
         self.literals.extend_from_slice(literals)?;
@@ -118,14 +119,14 @@ impl ProofLog {
     }
 
     /// Returns the hints of the addition of this number, counted from 0.
-    fn hints_of(&self, addition: u32) -> &[u32] {
+    fn hints_of(&self, addition: u32) -> &[ClauseId] {
         let from = self.end_before(addition).hints;
         let to = self.end_before(addition.wrapping_add(1)).hints;
         piece(self.hints.as_slice(), from, to)
     }
 
     /// Returns the literals of the addition of this number, counted from 0.
-    fn literals_of(&self, addition: u32) -> &[u32] {
+    fn literals_of(&self, addition: u32) -> &[LiteralCode] {
         let from = self.end_before(addition).literals;
         let to = self.end_before(addition.wrapping_add(1)).literals;
         piece(self.literals.as_slice(), from, to)
@@ -133,8 +134,8 @@ impl ProofLog {
 
     /// Marks what each marked addition rests on, from the last one back: the backward pass that trims a proof to its core. Hints have smaller numbers
     /// than their addition, so one pass is enough. The marks are of clauses from this number on, which is that of the first addition or a smaller one.
-    pub(crate) fn mark_needed(&self, from: u32, marks: &mut [u8]) {
-        let base = self.first.wrapping_sub(from);
+    pub(crate) fn mark_needed(&self, from: ClauseId, marks: &mut [u8]) {
+        let base = self.first.since(from);
         for addition in (0..size(self.ends.as_slice())).rev() {
             if at(marks, base.wrapping_add(addition), 0) != 0 {
                 mark(self.hints_of(addition), from, marks);
@@ -143,7 +144,7 @@ impl ProofLog {
     }
 
     /// Returns 1 for each addition on which these clauses rest.
-    fn needed(&self, alloc: Global, clauses: &[u32]) -> Result<Vec<u8>, AllocError> {
+    fn needed(&self, alloc: Global, clauses: &[ClauseId]) -> Result<Vec<u8>, AllocError> {
         let mut needed = vec![in alloc; 0; self.ends.len()]?;
         mark(clauses, self.first, needed.as_mut_slice());
         self.mark_needed(self.first, needed.as_mut_slice());
@@ -160,17 +161,17 @@ impl ProofLog {
         let hints = self.hints_of(addition);
         let mut ids = Vec::with_capacity(alloc, hints.len())?;
         for hint in hints {
-            ids.push(i64::from(*hint))?;
+            ids.push(hint.hint())?;
         }
         Ok(Step::Addition {
-            id: u64::from(self.first.wrapping_add(addition)),
+            id: u64::from(self.first.ahead(addition).number()),
             literals: Clause::from_slice(alloc, literals.as_slice())?,
             hints: Hints::compact(alloc, ids.as_slice())?,
         })
     }
 
     /// Returns the clauses on which the additions rest, one list after the other.
-    pub fn cited(&self) -> &[u32] {
+    pub fn cited(&self) -> &[ClauseId] {
         self.hints.as_slice()
     }
 
@@ -188,13 +189,13 @@ impl ProofLog {
     pub(crate) fn push_marked(
         &self,
         alloc: Global,
-        from: u32,
+        from: ClauseId,
         marks: &[u8],
         steps: &mut Vec<Step>,
     ) -> Result<(), AllocError>
         ensures { OnOk result (length steps.new.items ≤ length steps.old.items + self.now) }
     {
-        let base = self.first.wrapping_sub(from);
+        let base = self.first.since(from);
         for place in 0..self.ends.len() {
             let addition = u32::try_from(place).unwrap_or(u32::MAX);
             if at(marks, base.wrapping_add(addition), 1) != 0 {
@@ -218,7 +219,7 @@ impl ProofLog {
     pub fn derivation(&self, alloc: Global) -> Result<Derivation, AllocError>
         ensures { IfOk result (λ derivation. length derivation ≤ self.now) }
     {
-        let last = self.next_id().wrapping_sub(1);
+        let last = self.next_id().previous();
         let needed = match self.needed(alloc, &[last]) {
             Ok(needed) => needed,
             Err(_) => Vec::new(alloc),
@@ -228,7 +229,7 @@ impl ProofLog {
     }
 
     /// Returns those additions as steps that are among these clauses or are what these rest on.
-    pub fn steps_to(&self, alloc: Global, clauses: &[u32]) -> Result<Vec<Step>, AllocError> {
+    pub fn steps_to(&self, alloc: Global, clauses: &[ClauseId]) -> Result<Vec<Step>, AllocError> {
         let needed = self.needed(alloc, clauses)?;
         self.marked_steps(alloc, needed.as_slice())
     }

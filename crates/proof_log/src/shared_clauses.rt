@@ -1,12 +1,14 @@
 //! Clauses that a search hands to others.
 
+use crate::clause_id::ClauseId;
+use crate::codes::LiteralCode;
 use std::alloc::{AllocError, Global};
 use total_tables::{at, piece, size};
 
 /// Number and LBD of a clause, and where its literals end: they begin where those of the clause before it end.
 #[derive(Clone, Copy)]
 struct Head {
-    id: u32,
+    id: ClauseId,
     lbd: u32,
     end: u32,
 }
@@ -15,16 +17,16 @@ struct Head {
 #[derive(Clone, Copy)]
 pub struct SharedClause<'a> {
     /// The number of the clause.
-    pub id: u32,
+    pub id: ClauseId,
     /// How many different levels its literals had.
     pub lbd: u32,
     /// Its literals, by their codes.
-    pub literals: &'a [u32],
+    pub literals: &'a [LiteralCode],
 }
 
 /// Clauses that were learned, in their order.
 pub struct SharedClauses {
-    literals: Vec<u32>,
+    literals: Vec<LiteralCode>,
     heads: Vec<Head>,
 }
 
@@ -48,7 +50,12 @@ impl SharedClauses {
     }
 
     /// Adds a clause.
-    pub fn add(&mut self, literals: &[u32], id: u32, lbd: u32) -> Result<(), AllocError> {
+    pub fn add(
+        &mut self,
+        literals: &[LiteralCode],
+        id: ClauseId,
+        lbd: u32,
+    ) -> Result<(), AllocError> {
         self.literals.extend_from_slice(literals)?;
         let end = size(self.literals.as_slice());
         self.heads.push(Head { id, lbd, end })?;
@@ -63,7 +70,7 @@ impl SharedClauses {
     /// Returns the head of the clause at this place.
     fn head(&self, place: u32) -> Head {
         let nothing = Head {
-            id: 0,
+            id: ClauseId::NONE,
             lbd: 0,
             end: 0,
         };

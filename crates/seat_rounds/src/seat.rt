@@ -1,6 +1,6 @@
 //! A seat: a search that takes part in rounds.
 
-use proof_log::{Attempt, ProofLog, SearchEnd, SharedClauses, SharingLearner};
+use proof_log::{Attempt, ClauseId, ProofLog, SearchEnd, SharedClauses, SharingLearner};
 use std::alloc::AllocError;
 
 /// A search, and how its last round has ended. One that has found no memory has no end, and is left out from then on.
@@ -47,7 +47,7 @@ impl<S: SharingLearner + Drop> Seat<S> {
     }
 
     /// Returns its log, and begins one whose first addition will have this number.
-    pub(crate) fn begin_log(&mut self, first: u32) -> ProofLog {
+    pub(crate) fn begin_log(&mut self, first: ClauseId) -> ProofLog {
         self.attempt.begin_log(first)
     }
 }

@@ -5,7 +5,7 @@ ghost use Rattle.proof_log.specs.Answers.{IsWithin};
 
 use crate::round::Round;
 use crate::seat::Seat;
-use proof_log::{Answer, Attempt, LogChain, SearchEnd, SharingLearner, refuted_within};
+use proof_log::{Answer, Attempt, ClauseId, LogChain, SearchEnd, SharingLearner, refuted_within};
 use std::alloc::{AllocError, Global};
 use std::sync::Mutex;
 
@@ -17,14 +17,14 @@ pub(crate) struct Seats<S> {
     /// The logs of all rounds before the last one, in the order in which a derivation may use them.
     chain: LogChain,
     /// A number that no addition has, and none after it.
-    next: u32,
+    next: ClauseId,
 }
 
 impl<S: SharingLearner + Drop> Seats<S> {
     /// Starts with these searches. Only the first may have learned clauses already.
     pub(crate) fn new(alloc: Global, attempts: Vec<Attempt<S>>) -> Result<Seats<S>, AllocError> {
-        let mut first = 0;
-        let mut next = 0;
+        let mut first = ClauseId::NONE;
+        let mut next = ClauseId::NONE;
         if let Some(attempt) = attempts.first() {
             first = attempt.log.first_id();
             next = attempt.log.next_id();
@@ -64,7 +64,7 @@ impl<S: SharingLearner + Drop> Seats<S> {
         for slot in self.round.seats.iter_mut() {
             let seat = slot.get_mut();
             self.chain.push(seat.begin_log(self.next))?;
-            self.next = self.next.wrapping_add(step);
+            self.next = self.next.ahead(step);
         }
         Ok(())
     }
@@ -88,7 +88,7 @@ impl<S: SharingLearner + Drop> Seats<S> {
     }
 
     /// Returns the derivation of the clause of this number, the empty one, as an answer.
-    fn refutation(&mut self, clause: u32, budget: u64) -> Result<Answer, AllocError>
+    fn refutation(&mut self, clause: ClauseId, budget: u64) -> Result<Answer, AllocError>
         ensures { IfOk result (λ answer. IsWithin budget answer) }
     {
         self.collect_logs(0)?;
@@ -113,7 +113,7 @@ impl<S: SharingLearner + Drop> Seats<S> {
                 }
                 Some(SearchEnd::Refuted) => {
                     // Its last addition, the empty clause. It is asked before the logs are collected, after which this log is empty.
-                    let clause = seat.attempt.log.next_id().wrapping_sub(1);
+                    let clause = seat.attempt.log.next_id().previous();
                     let answer = self.refutation(clause, budget)?;
                     return Ok(Some(answer));
                 }

@@ -1,10 +1,9 @@
 //! Conflict analysis: resolves from a conflict back to the first unique implication point (1-UIP; Marques-Silva and Sakallah, 1996, and
 //! Zhang, Madigan, Moskewicz and Malik, 2001), and learns the clause that is left.
-//!
-//! A literal is given by its code: twice its variable, plus one if it is negative. So `^ 1` negates it, and `>> 1` gives its variable.
 
 use crate::search::Search;
 use clause_database::ReasonClause;
+use proof_log::codes::{NEVER, Variable};
 use std::alloc::AllocError;
 use total_tables::{at, put};
 
@@ -20,14 +19,20 @@ pub const NEEDED: u8 = 3;
 impl<'a> Search<'a> {
     /// Returns the mark of the variable. The table has an entry for each variable of the formula.
     #[inline(always)]
-    pub(crate) fn mark(&self, variable: u32) -> u8 {
-        at(self.marks.as_slice(), variable, SEEN)
+    pub(crate) fn mark(&self, variable: Variable) -> u8 {
+        at(self.marks.as_slice(), variable.number(), SEEN)
+    }
+
+    /// Gives the variable this mark. `marked` stays as it is.
+    #[inline(always)]
+    pub(crate) fn change_mark(&mut self, variable: Variable, mark: u8) {
+        put(self.marks.as_mut_slice(), variable.number(), mark);
     }
 
     /// Marks a variable that had no mark.
     #[inline(always)]
-    pub(crate) fn set_mark(&mut self, variable: u32, mark: u8) -> Result<(), AllocError> {
-        put(self.marks.as_mut_slice(), variable, mark);
+    pub(crate) fn set_mark(&mut self, variable: Variable, mark: u8) -> Result<(), AllocError> {
+        self.change_mark(variable, mark);
         self.marked.push(variable)?;
         Ok(())
     }
@@ -36,7 +41,7 @@ impl<'a> Search<'a> {
     /// of variables.
     pub(crate) fn clear_marks(&mut self) {
         for variable in &self.marked {
-            put(self.marks.as_mut_slice(), *variable, UNSEEN);
+            put(self.marks.as_mut_slice(), variable.number(), UNSEEN);
         }
         self.marked.clear();
     }
@@ -53,7 +58,7 @@ impl<'a> Search<'a> {
         let mut of_this_level: u32 = 0;
         for number in 0..reason.count {
             let literal = reason.literal(self.store.words(), number);
-            let variable = literal >> 1;
+            let variable = literal.variable();
             if self.mark(variable) != UNSEEN {
                 continue;
             }
@@ -82,7 +87,7 @@ impl<'a> Search<'a> {
         self.resolved.clear();
         self.pending.clear();
         // Room for the literal of the first unique implication point.
-        self.learned.push(0)?;
+        self.learned.push(NEVER)?;
         // Literals of the current level that were met and are not resolved away yet.
         let mut open = self.resolve(conflict)?;
         if open == 0 {
@@ -93,12 +98,12 @@ impl<'a> Search<'a> {
                 break;
             }
             let literal = self.trail.trail.literal(place);
-            if self.mark(literal >> 1) != SEEN {
+            if self.mark(literal.variable()) != SEEN {
                 continue;
             }
             open = open.wrapping_sub(1);
             if open == 0 {
-                put(self.learned.as_mut_slice(), 0, literal ^ 1);
+                put(self.learned.as_mut_slice(), 0, literal.negated());
                 break;
             }
             let reason = self.trail.reason(&self.store, literal);

@@ -1,6 +1,4 @@
 //! What is searched before the cubes of a formula are.
-//!
-//! A literal is given by its code: twice its variable, plus one if it is negative. So `^ 1` negates it, and `>> 1` gives its variable.
 
 use crate::prepared_formula::PreparedFormula;
 use crate::schedule_heuristic::suits_a_schedule;
@@ -9,7 +7,7 @@ use crate::solving::{begin, search_begun, search_cube};
 use crate::whole::{CubeRefutation, WholeRefutation};
 use assignment_trail::Activities;
 use dimacs::Lit;
-use proof_log::codes::literal_of;
+use proof_log::codes::{LiteralCode, NEVER, Variable, literal_of};
 use proof_log::{Answer, Attempt};
 use std::alloc::{AllocError, Global};
 use total_tables::{at, put, size};
@@ -46,30 +44,39 @@ const WHOLE_CONFLICTS: u64 = 500;
 /// Conflicts of a search of the formula itself that takes turns with one along a schedule. It is not handed on.
 const SCHEDULE_CONFLICTS: u64 = 8000;
 
-/// Returns the codes of the literals of the first cube over these variables: all of them are true in it. The code of a positive literal is even.
-fn first_cube(alloc: Global, splits: &[u32]) -> Result<Vec<u32>, AllocError> {
+/// Returns these variables of splits, one for each number.
+fn variables_of(alloc: Global, splits: &[u32]) -> Result<Vec<Variable>, AllocError> {
+    let mut variables = Vec::with_capacity(alloc, splits.len())?;
+    for number in splits {
+        variables.push(Variable::new(*number))?;
+    }
+    Ok(variables)
+}
+
+/// Returns the codes of the literals of the first cube over these variables: all of them are true in it.
+fn first_cube(alloc: Global, splits: &[u32]) -> Result<Vec<LiteralCode>, AllocError> {
     let mut codes = Vec::with_capacity(alloc, splits.len())?;
-    for variable in splits {
-        codes.push(variable.wrapping_mul(2))?;
+    for number in splits {
+        codes.push(Variable::new(*number).positive())?;
     }
     Ok(codes)
 }
 
 /// Goes on to the next cube, whose last true variable is false and those after it true. Returns whether there is one.
-fn go_to_next(codes: &mut Vec<u32>) -> bool {
+fn go_to_next(codes: &mut Vec<LiteralCode>) -> bool {
     let mut place = size(codes.as_slice());
     for _ in 0..codes.len() {
         place = place.wrapping_sub(1);
-        let code = at(codes.as_slice(), place, 0);
-        put(codes.as_mut_slice(), place, code ^ 1);
-        if code & 1 == 0 {
+        let code = at(codes.as_slice(), place, NEVER);
+        put(codes.as_mut_slice(), place, code.negated());
+        if code.is_positive() {
             return true;
         }
     }
     false
 }
 
-fn literals_of(alloc: Global, codes: &[u32]) -> Result<Vec<Lit>, AllocError> {
+fn literals_of(alloc: Global, codes: &[LiteralCode]) -> Result<Vec<Lit>, AllocError> {
     let mut literals = Vec::with_capacity(alloc, codes.len())?;
     for code in codes {
         literals.push(literal_of(*code))?;
@@ -96,7 +103,11 @@ impl<'a> PreparedFormula<'a> {
 
     /// Searches the first cube. If it is refuted, a search of the formula itself begins with the activities that this one has ended
     /// with. Returns whether it is refuted.
-    fn search_first_cube(&mut self, alloc: Global, codes: &[u32]) -> Result<bool, AllocError> {
+    fn search_first_cube(
+        &mut self,
+        alloc: Global,
+        codes: &[LiteralCode],
+    ) -> Result<bool, AllocError> {
         let cube = literals_of(alloc, codes)?;
         let id = self.id_in_cube(cube.len());
         let mut search = begin(alloc, self, cube.as_slice())?;
@@ -129,7 +140,7 @@ impl<'a> PreparedFormula<'a> {
     fn search_next_cubes(
         &mut self,
         alloc: Global,
-        codes: &mut Vec<u32>,
+        codes: &mut Vec<LiteralCode>,
         conflicts: u64,
     ) -> Result<bool, AllocError> {
         let begun = self.conflicts();
@@ -160,7 +171,7 @@ impl<'a> PreparedFormula<'a> {
         splits: &[u32],
         conflicts: u64,
     ) -> Result<bool, AllocError> {
-        self.leading = Vec::from_slice(alloc, splits)?;
+        self.leading = variables_of(alloc, splits)?;
         let id = self.id_in_cube(splits.len());
         let answer = search_cube(alloc, self, &[], id, conflicts)?;
         Ok(self.know(splits.len(), answer))
@@ -194,7 +205,7 @@ impl<'a> PreparedFormula<'a> {
         splits: &[u32],
         budget: u64,
     ) -> Result<Option<Attempt<Search<'a>>>, AllocError> {
-        self.leading = Vec::from_slice(alloc, splits)?;
+        self.leading = variables_of(alloc, splits)?;
         let id = self.id_in_cube(splits.len());
         let mut search = begin(alloc, self, &[])?;
         if let Some(counted) = search.count_sources(id, budget.min(SCHEDULE_CONFLICTS))? {
@@ -222,7 +233,7 @@ impl<'a> PreparedFormula<'a> {
         &mut self,
         alloc: Global,
         splits: &[u32],
-        codes: &mut Vec<u32>,
+        codes: &mut Vec<LiteralCode>,
         taken: u64,
     ) -> Result<bool, AllocError> {
         let short = SHORT_CONFLICTS.max((taken / 5).wrapping_mul(2));

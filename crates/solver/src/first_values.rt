@@ -1,8 +1,7 @@
 //! Values that are tried first, from the longest trails without a conflict (Biere and Fleury, "Chasing target phases", 2020).
-//!
-//! A literal is given by its code: twice its variable, plus one if it is negative. So `^ 1` negates it, and `>> 1` gives its variable.
 
 use assignment_trail::Trail;
+use proof_log::codes::{LiteralCode, Variable};
 use std::alloc::{AllocError, Global};
 use total_tables::{at, put};
 
@@ -49,8 +48,9 @@ impl LongestTrail {
         self.count = count;
         for place in 0..count {
             let literal = trail.literal(place);
-            let value = if literal & 1 == 0 { 0 } else { 1 };
-            put(self.values.as_mut_slice(), literal >> 1, value);
+            let value = if literal.is_positive() { 0 } else { 1 };
+            let variable = literal.variable();
+            put(self.values.as_mut_slice(), variable.number(), value);
         }
     }
 
@@ -107,12 +107,12 @@ impl FirstValues {
 
     /// Returns the literal of the variable that was true on the longest trail.
     #[inline(always)]
-    pub(crate) fn target(&self, variable: u32) -> Option<u32> {
-        let value = at(self.target.values.as_slice(), variable, NONE);
+    pub(crate) fn target(&self, variable: Variable) -> Option<LiteralCode> {
+        let value = at(self.target.values.as_slice(), variable.number(), NONE);
         if value == NONE {
             return None;
         }
-        Some(variable.wrapping_mul(2).wrapping_add(u32::from(value & 1)))
+        Some(LiteralCode::of(variable, value & 1 == 0))
     }
 
     /// Returns whether it is time for a change.

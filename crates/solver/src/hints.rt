@@ -1,25 +1,24 @@
 //! LRAT hints of a learned clause: the clauses by which unit propagation refutes its negation, in the order of their use.
-//!
-//! A literal is given by its code: twice its variable, plus one if it is negative. So `^ 1` negates it, and `>> 1` gives its variable.
 
 use crate::analyze::{NEEDED, SEEN, UNSEEN};
 use crate::search::Search;
+use proof_log::codes::{LiteralCode, Variable};
 use std::alloc::AllocError;
-use total_tables::put;
 
 impl<'a> Search<'a> {
     /// Returns the true literal of an assigned variable. For one without a value the answer has no meaning.
     #[inline(always)]
-    pub(crate) fn true_literal(&self, variable: u32) -> u32 {
+    pub(crate) fn true_literal(&self, variable: Variable) -> LiteralCode {
         let state = self.trail.trail.state(variable);
         self.trail.trail.literal(state.place)
     }
 
     /// Marks the antecedents of this variable as needed, but for those in the learned clause, which its negation makes false.
-    fn need_causes(&mut self, variable: u32) -> Result<(), AllocError> {
+    fn need_causes(&mut self, variable: Variable) -> Result<(), AllocError> {
         let reason = self.trail.reason(&self.store, self.true_literal(variable));
         for number in 0..reason.count {
-            let antecedent = reason.literal(self.store.words(), number) >> 1;
+            let literal = reason.literal(self.store.words(), number);
+            let antecedent = literal.variable();
             let mark = self.mark(antecedent);
             if mark == SEEN || mark == NEEDED {
                 continue;
@@ -28,7 +27,7 @@ impl<'a> Search<'a> {
                 self.set_mark(antecedent, NEEDED)?;
             } else {
                 // It is redundant, and so in `marked` already.
-                put(self.marks.as_mut_slice(), antecedent, NEEDED);
+                self.change_mark(antecedent, NEEDED);
             }
             self.pending.push(antecedent)?;
         }

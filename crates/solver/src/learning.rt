@@ -4,7 +4,8 @@ use crate::search::Search;
 use assignment_trail::TRUE;
 use dimacs::Assignment;
 use lrat_check::derivation::Derivation;
-use proof_log::{Learner, ProofLog};
+use proof_log::codes::{LiteralCode, Variable};
+use proof_log::{ClauseId, Learner, ProofLog};
 use std::alloc::AllocError;
 
 impl<'a> Learner for Search<'a> {
@@ -21,15 +22,15 @@ impl<'a> Learner for Search<'a> {
         self.analyze(conflict)
     }
 
-    fn learned(&self) -> &[u32] {
+    fn learned(&self) -> &[LiteralCode] {
         self.learned.as_slice()
     }
 
-    fn hints(&self) -> &[u32] {
+    fn hints(&self) -> &[ClauseId] {
         self.hints.as_slice()
     }
 
-    fn go_on(&mut self, id: u32) -> Result<(), AllocError> {
+    fn go_on(&mut self, id: ClauseId) -> Result<(), AllocError> {
         self.backjump_and_assert(id)?;
         self.after_conflict()
     }
@@ -52,10 +53,10 @@ impl<'a> Learner for Search<'a> {
         let ranks = self.trail.ranks(self.alloc)?;
         let mut values = Vec::with_capacity(self.alloc, self.variables as usize)?;
         for place in 0..self.variables {
-            let variable = place.wrapping_add(1);
+            let variable = Variable::new(place).next();
             let value = match self.trail.by_rank(ranks.as_slice(), variable) {
                 Some(value) => value,
-                None => self.trail.value(variable.wrapping_mul(2)) == TRUE,
+                None => self.trail.value(variable.positive()) == TRUE,
             };
             values.push(value)?;
         }

@@ -1,10 +1,9 @@
 //! Recursive minimisation of learned clauses: a literal that the others imply is left out (Sörensson and Biere, "Minimizing learned
 //! clauses", 2009). Shorter clauses propagate sooner, and cost the checker less.
-//!
-//! A literal is given by its code: twice its variable, plus one if it is negative. So `^ 1` negates it, and `>> 1` gives its variable.
 
 use crate::analyze::{NEEDED, REDUNDANT, UNSEEN};
 use crate::search::Search;
+use proof_log::codes::{LiteralCode, NEVER, Variable};
 use std::alloc::AllocError;
 use total_tables::{at, put, size};
 
@@ -15,7 +14,7 @@ impl<'a> Search<'a> {
     /// Returns the bit of the variable's level, one of 32. A level whose bit is missing among those of the clause has no literal in it, so
     /// a walk that meets it can stop early.
     #[inline(always)]
-    fn level_bit(&self, variable: u32) -> u32 {
+    fn level_bit(&self, variable: Variable) -> u32 {
         1 << (self.trail.trail.state(variable).level & 31)
     }
 
@@ -24,7 +23,7 @@ impl<'a> Search<'a> {
     fn levels_of_learned(&self) -> u32 {
         let mut levels: u32 = 0;
         for literal in &self.learned {
-            levels |= self.level_bit(*literal >> 1);
+            levels |= self.level_bit(literal.variable());
         }
         levels
     }
@@ -32,12 +31,12 @@ impl<'a> Search<'a> {
     /// Visits the antecedents of this variable, and puts those that need a further visit on the stack. One with a mark is in the clause or implied
     /// by it, and one of level 0 is false for good. Returns whether one of them cannot be implied by the rest of the clause: a decision, or one of a
     /// level that the clause has not.
-    fn leads_elsewhere(&mut self, variable: u32, levels: u32) -> Result<bool, AllocError> {
+    fn leads_elsewhere(&mut self, variable: Variable, levels: u32) -> Result<bool, AllocError> {
         let literal = self.true_literal(variable);
         let reason = self.trail.reason(&self.store, literal);
         for number in 0..reason.count {
             let other = reason.literal(self.store.words(), number);
-            let antecedent = other >> 1;
+            let antecedent = other.variable();
             if self.mark(antecedent) != UNSEEN || self.trail.trail.state(antecedent).level == 0 {
                 continue;
             }
@@ -52,13 +51,13 @@ impl<'a> Search<'a> {
 
     /// Returns whether the other literals of the learned clause imply this one. Visited variables stay marked as implied if so, so that no
     /// walk of this clause visits them again, and lose their marks if not.
-    fn is_implied(&mut self, literal: u32, levels: u32) -> Result<bool, AllocError> {
+    fn is_implied(&mut self, literal: LiteralCode, levels: u32) -> Result<bool, AllocError> {
         if self.trail.was_decided(literal) {
             return Ok(false);
         }
         let before = size(self.marked.as_slice());
         self.stack.clear();
-        self.stack.push(literal >> 1)?;
+        self.stack.push(literal.variable())?;
         for _ in 0..FUEL {
             let Some(variable) = self.stack.pop() else {
                 return Ok(true);
@@ -68,8 +67,8 @@ impl<'a> Search<'a> {
             }
         }
         for place in before..size(self.marked.as_slice()) {
-            let variable = at(self.marked.as_slice(), place, 0);
-            put(self.marks.as_mut_slice(), variable, UNSEEN);
+            let variable = at(self.marked.as_slice(), place, Variable::NONE);
+            self.change_mark(variable, UNSEEN);
         }
         self.marked.truncate(before as usize);
         Ok(false)
@@ -81,9 +80,9 @@ impl<'a> Search<'a> {
         let mut kept: u32 = 1;
         self.removed.clear();
         for place in 1..size(self.learned.as_slice()) {
-            let literal = at(self.learned.as_slice(), place, 0);
+            let literal = at(self.learned.as_slice(), place, NEVER);
             if self.is_implied(literal, levels)? {
-                self.removed.push(literal >> 1)?;
+                self.removed.push(literal.variable())?;
             } else {
                 put(self.learned.as_mut_slice(), kept, literal);
                 kept = kept.wrapping_add(1);
@@ -91,7 +90,7 @@ impl<'a> Search<'a> {
         }
         self.learned.truncate(kept as usize);
         for variable in &self.removed {
-            put(self.marks.as_mut_slice(), *variable, NEEDED);
+            put(self.marks.as_mut_slice(), variable.number(), NEEDED);
             self.pending.push(*variable)?;
         }
         Ok(())

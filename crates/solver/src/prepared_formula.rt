@@ -5,6 +5,8 @@ use crate::whole::{CubeRefutation, WholeRefutation};
 use assignment_trail::Activities;
 use clause_database::{EncodingHints, FormulaLoader, SmallClauses, number_of};
 use dimacs::{Assignment, ClauseList, Lit};
+use proof_log::ClauseId;
+use proof_log::codes::{LiteralCode, Variable};
 use std::alloc::{AllocError, Global};
 use std::sync::atomic::{AtomicU64, Ordering};
 
@@ -26,9 +28,9 @@ pub struct PreparedFormula<'a> {
     /// Those of two and three literals, by the literals that are in them.
     pub(crate) small: SmallClauses,
     /// The variables that can be decided.
-    pub(crate) wanted: Vec<u32>,
+    pub(crate) wanted: Vec<Variable>,
     /// The variables that are decided first: those of the splits, once the formula itself is searched.
-    pub(crate) leading: Vec<u32>,
+    pub(crate) leading: Vec<Variable>,
     /// The activities with which the search of the first cube has ended, if it refuted the cube. A search of the formula itself begins with them.
     pub(crate) activities: Option<Activities>,
     /// What refutes the formula itself, if that was found before its cubes are searched.
@@ -81,7 +83,7 @@ impl<'a> PreparedFormula<'a> {
         let count = formula.count();
         let encoding = encoding.fitting(variables, count);
         let loader = FormulaLoader::of(alloc, variables, formula, encoding)?;
-        let literals = variables.wrapping_mul(2).wrapping_add(2);
+        let literals = LiteralCode::count_over(variables);
         let small = SmallClauses::new(alloc, literals, loader.small.as_slice())?;
         let wanted = wanted_variables(alloc, variables, &loader, encoding)?;
         Ok(PreparedFormula {
@@ -126,7 +128,7 @@ impl<'a> PreparedFormula<'a> {
 
     /// Returns the id of the unit clause that a cube's literal at this place, counted from 0, stands for: after those of the formula, as the checker
     /// counts. For the number of the cube's literals it is the first free id, which the first step of a derivation has.
-    pub(crate) fn id_in_cube(&self, place: usize) -> u32 {
+    pub(crate) fn id_in_cube(&self, place: usize) -> ClauseId {
         number_of(self.count.saturating_add(place))
     }
 }

@@ -1,13 +1,12 @@
 //! Unit propagation: small clauses by occurrence lists, longer ones by two watched literals (Moskewicz, Madigan, Zhao, Zhang and
 //! Malik, "Chaff", 2001).
-//!
-//! A literal is given by its code: twice its variable, plus one if it is negative. So `^ 1` negates it, and `>> 1` gives its variable.
 
 use crate::search::Search;
 use assignment_trail::{FALSE, OPEN, OrderedTrail, TRUE};
 use clause_database::{
     HEADER, Others, Reason, ReasonClause, SmallClauses, Store, Watch, Watches, watch_at,
 };
+use proof_log::codes::{LiteralCode, NEVER};
 use std::alloc::AllocError;
 use total_tables::{at, piece, put, size};
 
@@ -15,9 +14,9 @@ use total_tables::{at, piece, put, size};
 #[derive(Clone, Copy)]
 enum WatchVisit {
     /// It keeps the watch; this is its other watched literal.
-    Stays(u32),
+    Stays(LiteralCode),
     /// It watches this literal instead.
-    Moves(u32),
+    Moves(LiteralCode),
     /// It is a conflict: all of its literals are false.
     Fails,
 }
@@ -30,11 +29,11 @@ fn next_touched(others: &[Others], from: u32, values: &[u8]) -> u32 {
     let length = size(others);
     for place in from..length {
         let nothing = Others {
-            first: 0,
-            second: 0,
+            first: NEVER,
+            second: NEVER,
         };
         let Others { first, second } = at(others, place, nothing);
-        if at(values, first, OPEN) | at(values, second, OPEN) == FALSE {
+        if at(values, first.code(), OPEN) | at(values, second.code(), OPEN) == FALSE {
             return place;
         }
     }
@@ -46,7 +45,7 @@ fn next_touched(others: &[Others], from: u32, values: &[u8]) -> u32 {
 fn visit_small(
     trail: &mut OrderedTrail<'_>,
     small: &SmallClauses,
-    falsified: u32,
+    falsified: LiteralCode,
 ) -> Option<ReasonClause> {
     let others = small.others(falsified);
     let start = small.start(falsified);
@@ -58,8 +57,8 @@ fn visit_small(
         }
         let id = small.id(start.wrapping_add(place));
         let nothing = Others {
-            first: 0,
-            second: 0,
+            first: NEVER,
+            second: NEVER,
         };
         let Others { first, second } = at(others, place, nothing);
         let (literal, other) = if trail.value(first) == OPEN {
@@ -101,16 +100,16 @@ fn visit_clause(
     trail: &mut OrderedTrail<'_>,
     words: &mut [u32],
     clause: u32,
-    falsified: u32,
+    falsified: LiteralCode,
 ) -> WatchVisit {
     let begin = clause.wrapping_add(HEADER);
     let behind_first = begin.wrapping_add(1);
-    let mut first = at(words, begin, 0);
+    let mut first = LiteralCode::new(at(words, begin, 0));
     // The falsified literal goes second: a literal that the clause makes true stands first, where `is_in_use` looks for it.
     if first == falsified {
-        first = at(words, behind_first, 0);
-        put(words, begin, first);
-        put(words, behind_first, falsified);
+        first = LiteralCode::new(at(words, behind_first, 0));
+        put(words, begin, first.code());
+        put(words, behind_first, falsified.code());
     }
     let value = trail.value(first);
     if value == TRUE {
@@ -123,8 +122,8 @@ fn visit_clause(
         let place = rest.wrapping_add(count);
         let literal = at(words, place, 0);
         put(words, behind_first, literal);
-        put(words, place, falsified);
-        return WatchVisit::Moves(literal);
+        put(words, place, falsified.code());
+        return WatchVisit::Moves(LiteralCode::new(literal));
     }
     if value == FALSE {
         return WatchVisit::Fails;
@@ -139,7 +138,7 @@ fn visit_stored(
     trail: &mut OrderedTrail<'_>,
     store: &mut Store,
     watches: &mut Watches,
-    falsified: u32,
+    falsified: LiteralCode,
 ) -> Result<u32, AllocError> {
     if watches.is_empty(falsified) {
         return Ok(0);
@@ -156,7 +155,8 @@ fn visit_stored(
                 WatchVisit::Moves(literal) => {
                     let clause = watch.clause;
                     // The visit has put the other watched literal first.
-                    let blocker = at(store.words(), clause.wrapping_add(HEADER), 0);
+                    let word = at(store.words(), clause.wrapping_add(HEADER), 0);
+                    let blocker = LiteralCode::new(word);
                     watches.add(literal, Watch { clause, blocker })?;
                     continue;
                 }
@@ -188,7 +188,7 @@ pub fn propagate(
         if let Err(conflict) = trail.follow_reads(literal) {
             return Ok(Some(conflict));
         }
-        let falsified = literal ^ 1;
+        let falsified = literal.negated();
         if let Some(conflict) = visit_small(trail, small, falsified) {
             return Ok(Some(conflict));
         }

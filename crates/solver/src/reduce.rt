@@ -1,6 +1,4 @@
 //! Reduction of the clause database: learned clauses that do not help are dropped from time to time.
-//!
-//! A literal is given by its code: twice its variable, plus one if it is negative. So `^ 1` negates it, and `>> 1` gives its variable.
 
 use crate::search::Search;
 use assignment_trail::TRUE;
@@ -32,7 +30,7 @@ impl<'a> Search<'a> {
         self.stamp = self.stamp.wrapping_add(1);
         let mut lbd: u32 = 0;
         for literal in &self.learned {
-            let level = self.trail.trail.state(*literal >> 1).level;
+            let level = self.trail.trail.state(literal.variable()).level;
             if at(self.level_stamps.as_slice(), level, 0) != self.stamp {
                 put(self.level_stamps.as_mut_slice(), level, self.stamp);
                 lbd = lbd.wrapping_add(1);
@@ -45,7 +43,7 @@ impl<'a> Search<'a> {
     /// a literal has it first. The reason of a literal whose value was undone is still there, so its value is asked too.
     fn is_in_use(&self, clause: u32) -> bool {
         let literal = self.store.literal(clause, 0);
-        match self.trail.trail.state(literal >> 1).reason {
+        match self.trail.trail.state(literal.variable()).reason {
             Reason::Stored { place } => place == clause && self.trail.value(literal) == TRUE,
             _ => false,
         }
@@ -72,7 +70,7 @@ impl<'a> Search<'a> {
     fn follow_moves(&mut self, old: &Store) {
         self.watches.move_all(old);
         for place in 0..self.trail.trail.count() {
-            let variable = self.trail.trail.literal(place) >> 1;
+            let variable = self.trail.trail.literal(place).variable();
             if let Reason::Stored { place: clause } = self.trail.trail.state(variable).reason {
                 self.trail.trail.move_cause(variable, old.moved(clause));
             }

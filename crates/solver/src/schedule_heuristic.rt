@@ -3,6 +3,7 @@
 use assignment_trail::{FALSE, OrderedTrail};
 use clause_database::ReadsFromTable;
 use order_sets::{ElementSets, next_element};
+use proof_log::codes::{LiteralCode, Variable};
 use std::alloc::{AllocError, Global};
 use total_tables::{at, put};
 
@@ -180,7 +181,7 @@ impl ScheduleHeuristic {
         } else {
             reads_from.variable(element, last.wrapping_sub(1))
         };
-        choice != 0 && trail.value(choice.wrapping_mul(2)) != FALSE
+        choice != Variable::NONE && trail.value(choice.positive()) != FALSE
     }
 
     /// Returns how many events are ready after this one and may read what it writes. For the count it is placed and taken out again.
@@ -253,7 +254,11 @@ impl ScheduleHeuristic {
 
     /// Returns the order literal that puts the best ready event before another ready one, if there are two. If none fits, the state is a
     /// dead end, and any of them leads to the conflict that says so.
-    fn best(&mut self, trail: &OrderedTrail<'_>, reads_from: &ReadsFromTable) -> Option<u32> {
+    fn best(
+        &mut self,
+        trail: &OrderedTrail<'_>,
+        reads_from: &ReadsFromTable,
+    ) -> Option<LiteralCode> {
         let mut best = None;
         let mut most: u32 = 0;
         for number in 0..self.sets.words() {
@@ -272,7 +277,7 @@ impl ScheduleHeuristic {
                 }
                 if worth > most {
                     most = worth;
-                    best = Some(trail.order().literal(element, other));
+                    best = Some(trail.before(element, other));
                 }
             }
         }
@@ -281,7 +286,7 @@ impl ScheduleHeuristic {
 
     /// Returns the next decision: which of two ready events comes first. None if only one is ready at each place, or if that one does
     /// not fit.
-    pub fn decide(&mut self, trail: &OrderedTrail<'_>) -> Option<u32> {
+    pub fn decide(&mut self, trail: &OrderedTrail<'_>) -> Option<LiteralCode> {
         let reads_from = trail.reads_from?;
         self.begin(trail);
         for _ in 0..trail.order().elements() {

@@ -1,6 +1,4 @@
 //! The state of a conflict-driven search (CDCL): it decides, propagates, and learns from each conflict.
-//!
-//! A literal is given by its code: twice its variable, plus one if it is negative. So `^ 1` negates it, and `>> 1` gives its variable.
 
 use crate::first_values::FirstValues;
 use crate::prepared_formula::PreparedFormula;
@@ -12,8 +10,8 @@ use clause_database::{
     EncodingHints, Reason, ReasonClause, SmallClause, SmallClauses, Store, Unit, Watches,
 };
 use dimacs::Lit;
-use proof_log::SharedClauses;
-use proof_log::codes::{NEVER, code_of};
+use proof_log::codes::{LiteralCode, NEVER, Variable, code_of};
+use proof_log::{ClauseId, SharedClauses};
 use std::alloc::{AllocError, Global};
 use total_tables::{at, put, size};
 
@@ -37,7 +35,7 @@ pub struct Search<'a> {
     pub(crate) trail: OrderedTrail<'a>,
     pub(crate) activities: Activities,
     /// Variables that are decided before all others, each as true first.
-    pub(crate) leading: Vec<u32>,
+    pub(crate) leading: Vec<Variable>,
     /// If it is there, decisions follow a schedule first.
     pub(crate) schedule: Option<ScheduleHeuristic>,
     /// If they are there, decisions take their values, and the saved one of a variable for which they have none.
@@ -45,21 +43,21 @@ pub struct Search<'a> {
 
     // The conflict at hand.
     /// The learned clause.
-    pub(crate) learned: Vec<u32>,
+    pub(crate) learned: Vec<LiteralCode>,
     /// Its hints.
-    pub(crate) hints: Vec<u32>,
+    pub(crate) hints: Vec<ClauseId>,
     /// Ids of the resolved clauses, the conflict's first.
-    pub(crate) resolved: Vec<u32>,
+    pub(crate) resolved: Vec<ClauseId>,
     /// Variables of the literals that minimisation left out.
-    pub(crate) removed: Vec<u32>,
+    pub(crate) removed: Vec<Variable>,
     /// Variables whose reasons are hints: those not visited yet, and the places of the others on the trail.
-    pub(crate) pending: Vec<u32>,
+    pub(crate) pending: Vec<Variable>,
     pub(crate) needed: Vec<u32>,
     /// Variables that minimisation has yet to visit.
-    pub(crate) stack: Vec<u32>,
+    pub(crate) stack: Vec<Variable>,
     /// For each variable what an analysis knows of it, a mark of `analyze`, and the variables that have one: it is 0 for all others.
     pub(crate) marks: Vec<u8>,
-    pub(crate) marked: Vec<u32>,
+    pub(crate) marked: Vec<Variable>,
     /// For each level the last count of levels that has met it, and the number of that count: so nothing is cleared between two.
     pub(crate) level_stamps: Vec<u32>,
     pub(crate) stamp: u32,
@@ -144,7 +142,7 @@ impl<'a> Search<'a> {
         variables: u32,
         prepared: &PreparedFormula<'a>,
     ) -> Result<Search<'a>, AllocError> {
-        let literals = variables.wrapping_mul(2).wrapping_add(2);
+        let literals = LiteralCode::count_over(variables);
         let places = variables.wrapping_add(1) as usize;
         Ok(Search {
             alloc,
@@ -157,7 +155,7 @@ impl<'a> Search<'a> {
             conflict: None,
             trail: OrderedTrail::new(alloc, variables, prepared.encoding)?,
             activities: Activities::new(alloc, variables, prepared.wanted.as_slice())?,
-            leading: prepared.leading.clone()?,
+            leading: Vec::from_slice(alloc, prepared.leading.as_slice())?,
             schedule: None,
             first_values: None,
             learned: Vec::new(alloc),
@@ -191,7 +189,7 @@ impl<'a> Search<'a> {
                 left.push(*clause)?;
             }
         }
-        let literals = self.variables.wrapping_mul(2).wrapping_add(2);
+        let literals = LiteralCode::count_over(self.variables);
         self.small = SmallClauses::new(self.alloc, literals, left.as_slice())?;
         Ok(())
     }
@@ -241,7 +239,7 @@ impl<'a> Search<'a> {
             });
         }
         let empty = prepared.loader.empty;
-        if empty != 0 {
+        if empty != ClauseId::NONE {
             self.conflict = Some(ReasonClause::of_literals(empty, NEVER, NEVER, NEVER));
         }
     }
@@ -265,9 +263,9 @@ impl<'a> Search<'a> {
     }
 
     /// Picks the next of the leading variables. They are those of a tree's splits, at most twenty, so they are looked through each time.
-    fn decide_leading(&self) -> Option<u32> {
+    fn decide_leading(&self) -> Option<LiteralCode> {
         for variable in &self.leading {
-            let literal = variable.wrapping_mul(2);
+            let literal = variable.positive();
             if self.trail.value(literal) == OPEN {
                 return Some(literal);
             }
@@ -276,7 +274,7 @@ impl<'a> Search<'a> {
     }
 
     /// Returns the literal of the variable that is tried first.
-    fn tried_first(&self, variable: u32) -> u32 {
+    fn tried_first(&self, variable: Variable) -> LiteralCode {
         if let Some(first_values) = &self.first_values
             && let Some(literal) = first_values.target(variable)
         {
@@ -287,7 +285,7 @@ impl<'a> Search<'a> {
 
     /// Picks the next decision: a leading variable, else along the schedule if there is one, else the most active open variable with its
     /// first value.
-    fn decide(&mut self) -> Option<u32> {
+    fn decide(&mut self) -> Option<LiteralCode> {
         if let Some(literal) = self.decide_leading() {
             return Some(literal);
         }
@@ -343,7 +341,7 @@ impl<'a> Search<'a> {
         let mut level: u32 = 0;
         for place in 1..size(self.learned.as_slice()) {
             let literal = at(self.learned.as_slice(), place, NEVER);
-            let its_level = self.trail.trail.state(literal >> 1).level;
+            let its_level = self.trail.trail.state(literal.variable()).level;
             if its_level > level {
                 level = its_level;
                 latest = place;
@@ -358,7 +356,7 @@ impl<'a> Search<'a> {
 
     /// Backjumps to the level at which the learned clause is unit, and asserts its first literal. The clause is stored with that literal first and a
     /// literal of that level second, since the first two are watched.
-    pub(crate) fn backjump_and_assert(&mut self, id: u32) -> Result<(), AllocError> {
+    pub(crate) fn backjump_and_assert(&mut self, id: ClauseId) -> Result<(), AllocError> {
         let lbd = self.lbd_of_learned();
         self.share(id, lbd)?;
         let level = self.level_to_resume();

@@ -1,14 +1,12 @@
 //! What a search gives to others of the same formula, and what it takes in of theirs (Hamadi, Jabbour and Sais, "ManySAT: a parallel SAT
 //! solver", 2009).
-//!
-//! A literal is given by its code: twice its variable, plus one if it is negative. So `^ 1` negates it, and `>> 1` gives its variable.
 
 use crate::restart::{ROUNDS_UNIT, Restarts};
 use crate::search::Search;
-use assignment_trail::{FALSE, OPEN, TRUE};
-use clause_database::{Reason, ReasonClause};
-use proof_log::codes::NEVER;
-use proof_log::{SharedClause, SharedClauses, SharingLearner};
+use assignment_trail::{OPEN, TRUE};
+use clause_database::Reason;
+use proof_log::codes::{LiteralCode, NEVER};
+use proof_log::{ClauseId, SharedClause, SharedClauses, SharingLearner};
 use std::alloc::AllocError;
 use total_tables::{at, put, size};
 
@@ -28,7 +26,7 @@ impl<'a> Search<'a> {
     }
 
     /// Keeps the last learned clause, which has this id and this LBD, unless it is very long or this search shares nothing.
-    pub(crate) fn share(&mut self, id: u32, lbd: u32) -> Result<(), AllocError> {
+    pub(crate) fn share(&mut self, id: ClauseId, lbd: u32) -> Result<(), AllocError> {
         if lbd > MAX_SHARED_LBD || self.learned.len() > MAX_SHARED_LITERALS {
             return Ok(());
         }
@@ -40,7 +38,7 @@ impl<'a> Search<'a> {
 
     /// Puts the literals of the clause into `learned`, those that are open first. Returns how many are open, or none if one is true, since such a
     /// clause says nothing more.
-    fn open_first(&mut self, literals: &[u32]) -> Result<Option<u32>, AllocError> {
+    fn open_first(&mut self, literals: &[LiteralCode]) -> Result<Option<u32>, AllocError> {
         self.learned.clear();
         self.learned.extend_from_slice(literals)?;
         let mut open: u32 = 0;

@@ -8,7 +8,7 @@ use crate::schedule_heuristic::{begins_with_a_schedule, suits_a_schedule};
 use crate::search::Search;
 use clause_database::EncodingHints;
 use dimacs::{ClauseList, Lit};
-use proof_log::{Answer, Attempt, CubeSolver, TURN, search_alone, take_turns};
+use proof_log::{Answer, Attempt, ClauseId, CubeSolver, TURN, search_alone, take_turns};
 use std::alloc::{AllocError, Global};
 
 /// Returns the largest variable of the formula and of the cube.
@@ -40,7 +40,7 @@ fn search_by_two<'a>(
     alloc: Global,
     prepared: &PreparedFormula<'a>,
     cube: &[Lit],
-    first_id: u32,
+    first_id: ClauseId,
     first: &mut Attempt<Search<'a>>,
     budget: u64,
 ) -> Result<Answer, AllocError>
@@ -61,7 +61,7 @@ fn search_from<'a>(
     alloc: Global,
     prepared: &PreparedFormula<'a>,
     cube: &[Lit],
-    first_id: u32,
+    first_id: ClauseId,
     first: &mut Attempt<Search<'a>>,
     budget: u64,
 ) -> Result<Answer, AllocError>
@@ -87,7 +87,7 @@ pub(crate) fn search_begun<'a>(
     alloc: Global,
     prepared: &PreparedFormula<'a>,
     cube: &[Lit],
-    first_id: u32,
+    first_id: ClauseId,
     first: &mut Attempt<Search<'a>>,
     budget: u64,
 ) -> Result<Answer, AllocError>
@@ -104,7 +104,7 @@ pub(crate) fn search_cube(
     alloc: Global,
     prepared: &PreparedFormula<'_>,
     cube: &[Lit],
-    first_id: u32,
+    first_id: ClauseId,
     budget: u64,
 ) -> Result<Answer, AllocError>
     ensures { IfOk result (λ answer. IsWithin budget answer) }

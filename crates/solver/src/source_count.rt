@@ -17,7 +17,8 @@ use counting_proofs::{
     find_contradiction, has_hall_violator, refute,
 };
 use lrat_check::derivation::{Derivation, Step};
-use proof_log::{Answer, ProofLog, TURN, refuted_within};
+use proof_log::codes::{LiteralCode, Variable};
+use proof_log::{Answer, ClauseId, ProofLog, TURN, refuted_within};
 use std::alloc::AllocError;
 
 /// Returns the order that is known at level 0.
@@ -29,7 +30,7 @@ fn known_order<'b>(
     KnownOrder {
         order: OrderClauses {
             operations: encoding.elements(),
-            first: encoding.first(),
+            first: encoding.first().number(),
         },
         writers: reads_from.writers(),
         successors: trail.order().successors(),
@@ -78,14 +79,14 @@ impl<'a> Search<'a> {
         &mut self,
         literals: &[u32],
         log: &ProofLog,
-    ) -> Result<(Vec<u32>, Vec<Step>, u32), AllocError> {
+    ) -> Result<(Vec<ClauseId>, Vec<Step>, ClauseId), AllocError> {
         let alloc = self.alloc;
         let mut units = UnitClauses::new(alloc, self.variables, log.next_id())?;
         let mut clauses = Vec::new(alloc);
         for literal in literals {
-            clauses.push(self.unit(&mut units, *literal)?)?;
+            clauses.push(self.unit(&mut units, LiteralCode::new(*literal))?)?;
         }
-        let mut cited = clauses.clone()?;
+        let mut cited = Vec::from_slice(alloc, clauses.as_slice())?;
         cited.extend_from_slice(units.log.cited())?;
         let mut steps = log.steps_to(alloc, cited.as_slice())?;
         steps.append(&mut units.log.steps(alloc)?)?;
@@ -128,7 +129,7 @@ impl<'a> Search<'a> {
         let (clauses, steps, next) = self.unit_clauses(found.rests_on(), log)?;
         let free = Free {
             clause: next,
-            variable: self.variables.wrapping_add(1),
+            variable: Variable::new(self.variables).next(),
         };
         let given = Premises {
             steps,
@@ -160,7 +161,7 @@ impl<'a> Search<'a> {
     /// Only a budget of one turn is searched: its end is near.
     pub(crate) fn count_sources(
         &mut self,
-        first: u32,
+        first: ClauseId,
         budget: u64,
     ) -> Result<Option<Answer>, AllocError>
         ensures { IfOk result (λ found. IfSome found (λ answer. IsWithin budget answer)) }

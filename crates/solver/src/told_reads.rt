@@ -6,12 +6,13 @@ use counting_proofs::{
     GreedyMatching, KnownOrder, MatchingInstance, Reader, ReadsFromEdge as Source, SourceSets,
     Update,
 };
+use proof_log::codes::Variable;
 use std::alloc::{AllocError, Global};
 use total_tables::{at, size};
 
 /// Returns whether the reads-from variable is false.
-fn is_excluded(trail: &OrderedTrail<'_>, variable: u32) -> bool {
-    trail.value(variable.wrapping_mul(2)) == FALSE
+fn is_excluded(trail: &OrderedTrail<'_>, variable: Variable) -> bool {
+    trail.value(variable.positive()) == FALSE
 }
 
 /// Returns the place of each event among the writers of its location.
@@ -51,7 +52,7 @@ fn source_of(
         place,
         variable: choice.variable,
         first: choice.first,
-        is_excluded: is_excluded(trail, choice.variable),
+        is_excluded: is_excluded(trail, Variable::new(choice.variable)),
     }
 }
 
@@ -62,7 +63,7 @@ fn source_of_last(trail: &OrderedTrail<'_>, places: &[u32], last: LastWriter) ->
         place: Some(at(places, last.writer, 0)),
         variable: last.variable,
         first: last.first,
-        is_excluded: is_excluded(trail, last.variable),
+        is_excluded: is_excluded(trail, Variable::new(last.variable)),
     }
 }
 
@@ -142,7 +143,7 @@ fn add_update(
 ) -> Result<bool, AllocError> {
     sets.add_update(element, &trail.candidates.writers)?;
     let variable = reads_from.variable_without_writer(element);
-    if variable == 0 || is_excluded(trail, variable) {
+    if variable == Variable::NONE || is_excluded(trail, variable) {
         return Ok(true);
     }
     let source = first_value(reads_from, element);
@@ -162,7 +163,7 @@ fn add_finals(
             clause = last.clause;
             sets.add_reader(None)?;
         }
-        if !is_excluded(trail, last.variable) {
+        if !is_excluded(trail, Variable::new(last.variable)) {
             sets.add_source(last.writer);
         }
     }
@@ -227,7 +228,8 @@ pub fn has_enough_sources(
     for element in 0..reads_from.elements() {
         if reads_from.reads(element) && reads_from.writes(element) {
             let variable = reads_from.variable_without_writer(element);
-            glance.add_update(element, variable != 0 && !is_excluded(trail, variable));
+            let may_have_first = variable != Variable::NONE && !is_excluded(trail, variable);
+            glance.add_update(element, may_have_first);
         }
     }
     if !glance.has_updates() {
@@ -239,7 +241,7 @@ pub fn has_enough_sources(
             clause = last.clause;
             glance.add_location(last.writer)?;
         }
-        if !is_excluded(trail, last.variable) {
+        if !is_excluded(trail, Variable::new(last.variable)) {
             glance.add_end(last.writer);
         }
     }

@@ -1,10 +1,9 @@
 //! Unit clauses at level 0, added to the proof on demand: each is a step of the budget, and most literals are never cited.
-//!
-//! A literal is given by its code: twice its variable, plus one if it is negative. So `^ 1` negates it, and `>> 1` gives its variable.
 
 use crate::analyze::{NEEDED, UNSEEN};
 use crate::search::Search;
-use proof_log::ProofLog;
+use proof_log::codes::{LiteralCode, Variable};
+use proof_log::{ClauseId, ProofLog};
 use std::alloc::{AllocError, Global};
 use total_tables::{at, put};
 
@@ -13,22 +12,22 @@ use total_tables::{at, put};
 pub struct UnitClauses {
     /// Those that are neither in the formula nor in the cube.
     pub log: ProofLog,
-    /// Id of the unit clause of each variable, or 0.
-    ids: Vec<u32>,
+    /// Id of the unit clause of each variable, or none.
+    ids: Vec<ClauseId>,
 }
 
 impl UnitClauses {
     /// Starts without clauses, over this number of variables. The first one that is added has this number.
-    pub fn new(alloc: Global, variables: u32, first: u32) -> Result<UnitClauses, AllocError> {
+    pub fn new(alloc: Global, variables: u32, first: ClauseId) -> Result<UnitClauses, AllocError> {
         Ok(UnitClauses {
             log: ProofLog::new(alloc, first),
-            ids: vec![in alloc; 0; variables.wrapping_add(1) as usize]?,
+            ids: vec![in alloc; ClauseId::NONE; variables.wrapping_add(1) as usize]?,
         })
     }
 
-    /// Returns the number of the variable's clause, or 0.
-    fn id(&self, variable: u32) -> u32 {
-        at(self.ids.as_slice(), variable, 0)
+    /// Returns the number of the variable's clause, or none.
+    fn id(&self, variable: Variable) -> ClauseId {
+        at(self.ids.as_slice(), variable.number(), ClauseId::NONE)
     }
 }
 
@@ -37,14 +36,15 @@ impl<'a> Search<'a> {
     fn need_causes_of_unit(
         &mut self,
         units: &UnitClauses,
-        variable: u32,
+        variable: Variable,
     ) -> Result<(), AllocError> {
-        if units.id(variable) != 0 {
+        if units.id(variable) != ClauseId::NONE {
             return Ok(());
         }
         let reason = self.trail.reason(&self.store, self.true_literal(variable));
         for number in 0..reason.count {
-            let antecedent = reason.literal(self.store.words(), number) >> 1;
+            let literal = reason.literal(self.store.words(), number);
+            let antecedent = literal.variable();
             if self.mark(antecedent) == UNSEEN {
                 self.set_mark(antecedent, NEEDED)?;
                 self.pending.push(antecedent)?;
@@ -57,7 +57,7 @@ impl<'a> Search<'a> {
     fn gather_hints_of_unit(
         &mut self,
         units: &UnitClauses,
-        variable: u32,
+        variable: Variable,
     ) -> Result<(), AllocError> {
         self.needed.clear();
         self.pending.clear();
@@ -76,8 +76,8 @@ impl<'a> Search<'a> {
         self.needed.sort_unstable();
         for place in &self.needed {
             let literal = self.trail.trail.literal(*place);
-            let mut id = units.id(literal >> 1);
-            if id == 0 {
+            let mut id = units.id(literal.variable());
+            if id == ClauseId::NONE {
                 id = self.trail.reason(&self.store, literal).id;
             }
             self.hints.push(id)?;
@@ -90,11 +90,11 @@ impl<'a> Search<'a> {
     pub(crate) fn unit(
         &mut self,
         units: &mut UnitClauses,
-        literal: u32,
-    ) -> Result<u32, AllocError> {
-        let variable = literal >> 1;
+        literal: LiteralCode,
+    ) -> Result<ClauseId, AllocError> {
+        let variable = literal.variable();
         let mut id = units.id(variable);
-        if id != 0 {
+        if id != ClauseId::NONE {
             return Ok(id);
         }
         // A unit clause of the formula or of the cube is named as it is, and takes no step.
@@ -105,7 +105,7 @@ impl<'a> Search<'a> {
             id = units.log.next_id();
             units.log.add(&[literal], self.hints.as_slice())?;
         }
-        put(units.ids.as_mut_slice(), variable, id);
+        put(units.ids.as_mut_slice(), variable.number(), id);
         Ok(id)
     }
 }

@@ -1,26 +1,24 @@
 //! Decision variables.
-//!
-//! A literal is given by its code: twice its variable, plus one if it is negative. So `^ 1` negates it, and `>> 1` gives its variable.
 
 use clause_database::{EncodingHints, FormulaLoader, ReadsFromTable, SmallClause, Store};
 use order_sets::next_element;
-use proof_log::codes::NEVER;
+use proof_log::codes::{NEVER, Variable};
 use std::alloc::{AllocError, Global};
 use total_tables::{at, put, size};
 
 /// Marks the variable as a decision variable.
 #[inline(always)]
-fn want(marks: &mut [u8], variable: u32) {
-    put(marks, variable, 1);
+fn want(marks: &mut [u8], variable: Variable) {
+    put(marks, variable.number(), 1);
 }
 
 /// Marks the variables of these clauses.
 fn want_small(marks: &mut [u8], clauses: &[SmallClause]) {
     for clause in clauses {
-        want(marks, clause.first >> 1);
-        want(marks, clause.second >> 1);
+        want(marks, clause.first.variable());
+        want(marks, clause.second.variable());
         if clause.third != NEVER {
-            want(marks, clause.third >> 1);
+            want(marks, clause.third.variable());
         }
     }
 }
@@ -33,7 +31,7 @@ fn want_long(marks: &mut [u8], long: &Store) {
             break;
         }
         for number in 0..long.count(clause) {
-            want(marks, long.literal(clause, number) >> 1);
+            want(marks, long.literal(clause, number).variable());
         }
         clause = long.next_clause(clause);
     }
@@ -68,10 +66,10 @@ fn want_reads(
     let mut in_choices = vec![in alloc; 0; elements as usize]?;
     for choice in reads_from.choices() {
         if let Some(choice) = choice {
-            want(marks, choice.variable);
-            want(in_choices.as_mut_slice(), choice.reader);
+            want(marks, Variable::new(choice.variable));
+            put(in_choices.as_mut_slice(), choice.reader, 1);
             if let Some(writer) = choice.writer {
-                want(in_choices.as_mut_slice(), writer);
+                put(in_choices.as_mut_slice(), writer, 1);
             }
         }
     }
@@ -90,7 +88,7 @@ pub fn wanted_variables(
     variables: u32,
     loader: &FormulaLoader,
     encoding: EncodingHints<'_>,
-) -> Result<Vec<u32>, AllocError> {
+) -> Result<Vec<Variable>, AllocError> {
     let mut marks = vec![in alloc; 0; variables.wrapping_add(1) as usize]?;
     want_small(marks.as_mut_slice(), loader.small.as_slice());
     want_long(marks.as_mut_slice(), &loader.long);
@@ -98,9 +96,9 @@ pub fn wanted_variables(
         want_reads(alloc, marks.as_mut_slice(), encoding, reads_from)?;
     }
     let mut wanted = Vec::new(alloc);
-    for variable in 0..size(marks.as_slice()) {
-        if at(marks.as_slice(), variable, 0) != 0 {
-            wanted.push(variable)?;
+    for number in 0..size(marks.as_slice()) {
+        if at(marks.as_slice(), number, 0) != 0 {
+            wanted.push(Variable::new(number))?;
         }
     }
     Ok(wanted)

@@ -9,7 +9,7 @@ use crate::source_count::has_updates;
 use dimacs::{Assignment, Lit};
 use lrat_check::derivation::Derivation;
 use lrat_check::derivation_copies::copied;
-use proof_log::{Answer, ProofLog, refuted_within};
+use proof_log::{Answer, ClauseId, ProofLog, refuted_within};
 use std::alloc::{AllocError, Global};
 
 /// A derivation that the formula itself has no model.
@@ -68,7 +68,7 @@ impl<'a> PreparedFormula<'a> {
     fn refute_whole(
         &self,
         alloc: Global,
-        first: u32,
+        first: ClauseId,
         budget: u64,
     ) -> Result<Option<Derivation>, AllocError>
         ensures { IfOk result (λ found. IfSome found (λ derivation. length derivation ≤ budget)) }

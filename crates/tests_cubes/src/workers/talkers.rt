@@ -2,7 +2,8 @@
 
 use dimacs::Assignment;
 use lrat_check::derivation::Derivation;
-use proof_log::{Attempt, Learner, ProofLog, SharedClauses, SharingLearner};
+use proof_log::codes::{LiteralCode, Variable};
+use proof_log::{Attempt, ClauseId, Learner, ProofLog, SharedClauses, SharingLearner};
 use std::alloc::{AllocError, Global};
 use std::mem;
 
@@ -25,9 +26,9 @@ pub struct Talker {
     alloc: Global,
     left: u32,
     end: TalkEnd,
-    learned: Vec<u32>,
-    hints: Vec<u32>,
-    next_hints: Vec<u32>,
+    learned: Vec<LiteralCode>,
+    hints: Vec<ClauseId>,
+    next_hints: Vec<ClauseId>,
     given: SharedClauses,
 }
 
@@ -59,20 +60,20 @@ impl Learner for Talker {
         self.hints = mem::replace(&mut self.next_hints, Vec::new(self.alloc));
         self.learned.clear();
         if self.left > 0 {
-            self.learned.push(2)?;
+            self.learned.push(Variable::new(1).positive())?;
         }
         Ok(())
     }
 
-    fn learned(&self) -> &[u32] {
+    fn learned(&self) -> &[LiteralCode] {
         self.learned.as_slice()
     }
 
-    fn hints(&self) -> &[u32] {
+    fn hints(&self) -> &[ClauseId] {
         self.hints.as_slice()
     }
 
-    fn go_on(&mut self, id: u32) -> Result<(), AllocError> {
+    fn go_on(&mut self, id: ClauseId) -> Result<(), AllocError> {
         self.next_hints.push(id)?;
         self.given.add(self.learned.as_slice(), id, 1)
     }
@@ -110,7 +111,7 @@ pub fn talkers(alloc: Global, ends: &[(u32, TalkEnd)]) -> Result<Vec<Attempt<Tal
     let mut searches = Vec::with_capacity(alloc, ends.len())?;
     for (conflicts, end) in ends {
         let talker = Talker::new(alloc, *conflicts, *end);
-        searches.push(Attempt::new(alloc, talker, FIRST))?;
+        searches.push(Attempt::new(alloc, talker, ClauseId::new(FIRST)))?;
     }
     Ok(searches)
 }

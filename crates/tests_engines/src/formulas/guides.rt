@@ -19,7 +19,8 @@ use trace_decision::guide::{guide_to_order, reads_from_table};
 fn names_transitivity(meanings: &ClauseRuns<'_>, count: usize, guide: EncodingHints) -> bool {
     for place in 0..count {
         let number = place.wrapping_add(1);
-        let is_named = guide.first() as usize <= number && number < guide.end_id() as usize;
+        let is_named = guide.first().number() as usize <= number
+            && number < guide.end_id().number() as usize;
         let is_one = match meanings.meaning_at(place) {
             Some(ClauseMeaning::NoCycle { .. }) => true,
             _ => false,
@@ -41,7 +42,7 @@ fn is_right_choice(
         if !table.writers().has(choice.reader, writer) {
             continue;
         }
-        let meaning = said(meanings, table.clause_of(choice, writer));
+        let meaning = said(meanings, table.clause_of(choice, writer).number());
         let is_right = if choice.writer == Some(writer) {
             is_after(meaning, choice.reader, choice.variable, writer)
         } else {
@@ -57,7 +58,8 @@ fn is_right_choice(
             return false;
         }
     }
-    !is_of(said(meanings, table.end_id(choice)), choice.variable)
+    let behind = table.end_id(choice).number();
+    !is_of(said(meanings, behind), choice.variable)
         && !is_of(
             said(meanings, choice.first.wrapping_sub(1)),
             choice.variable,

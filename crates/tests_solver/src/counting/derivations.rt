@@ -3,6 +3,8 @@
 use crate::counting::one_location::Spelling;
 use counting_proofs::{Free, KnownOrder, MatchingInstance, Premises, SourceContradiction, refute};
 use lrat_check::checker::check;
+use proof_log::ClauseId;
+use proof_log::codes::Variable;
 use std::alloc::{AllocError, Global};
 
 /// What is said of the readers of a formula and of its order.
@@ -21,8 +23,8 @@ pub fn accepted(
     budget: u64,
 ) -> Result<bool, AllocError> {
     let free = Free {
-        clause: spelling.count().wrapping_add(1),
-        variable: spelling.variables().wrapping_add(1),
+        clause: ClauseId::new(spelling.count()).next(),
+        variable: Variable::new(spelling.variables()).next(),
     };
     let clauses = spelling.units(contradiction.rests_on())?;
     let given = Premises {

@@ -3,6 +3,7 @@
 use counting_proofs::{KnownOrder, MatchingInstance, OrderClauses, Reader, ReadsFromEdge, Update};
 use dimacs::{Clause, Formula, Lit};
 use order_sets::ElementSets;
+use proof_log::ClauseId;
 use std::alloc::{AllocError, Global};
 
 /// A writer of the location: a write, or an update, which reads too.
@@ -129,18 +130,18 @@ impl Spelling {
     }
 
     /// The number of the clause that has the literal of this code alone.
-    fn unit(&self, code: u32) -> u32 {
+    fn unit(&self, code: u32) -> ClauseId {
         let mut number = 0;
         for (literal, clause) in &self.units {
             if *literal == code {
                 number = *clause;
             }
         }
-        number
+        ClauseId::new(number)
     }
 
     /// The numbers of the clauses that have the literals of these codes alone.
-    pub fn units(&self, codes: &[u32]) -> Result<Vec<u32>, AllocError> {
+    pub fn units(&self, codes: &[u32]) -> Result<Vec<ClauseId>, AllocError> {
         let mut numbers = Vec::new(self.alloc);
         for code in codes {
             numbers.push(self.unit(*code))?;
