@@ -311,7 +311,9 @@ fn bar_sources(
         reader.read.value,
         reader.read.origin,
     );
-    let runs = writers.by_value.runs(reader.read.location, reader.read.value);
+    let runs = writers
+        .by_value
+        .runs(reader.read.location, reader.read.value);
     bar_runs(trace, reader, own, runs, orders)?;
     bar_start(trace, reader, orders)?;
     Ok(())

@@ -264,7 +264,9 @@ fn bar_taken_sources(
         reader.read.value,
         reader.read.origin,
     );
-    let runs = writers.by_value.runs(reader.read.location, reader.read.value);
+    let runs = writers
+        .by_value
+        .runs(reader.read.location, reader.read.value);
     bar_taken_runs(trace, reader, own, runs, orders, left)?;
     let is_left = bar_taken_start(trace, reader, orders)?;
     Ok(is_left)
