@@ -17,6 +17,7 @@ pub mod LratText
 pub mod LratWritten
 pub mod Marks
 pub mod OtherCubes
+pub mod Pieces
 pub mod Propagation
 pub mod Rat
 pub mod Refusal

@@ -23,7 +23,7 @@ pub struct Accepted;
 
 /// Takes the step, whose hints go through the list `room`. Returns whether it adds the empty clause. A deletion may name ids of no
 /// active clause: they are passed over.
-fn take_step<'a, F: ClauseList>(
+pub(crate) fn take_step<'a, F: ClauseList>(
     run: &StepRun<'_, F>,
     counts: &mut FormulaCounts,
     active: &mut CountedClauses<'a>,

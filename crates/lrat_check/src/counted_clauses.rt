@@ -83,6 +83,21 @@ impl<'a> CountedClauses<'a> {
         }
     }
 
+    /// The same clauses, of which nothing is counted any more.
+    pub fn uncounted(self) -> CountedClauses<'a>
+        ensures same { result.clauses ≡ self.entry.clauses }
+        ensures counted { (clauses : List (List ℤ)) → HasRightChanges clauses result }
+    {
+        let CountedClauses {
+            clauses,
+            changes: _changes,
+        } = self;
+        CountedClauses {
+            clauses,
+            changes: None,
+        }
+    }
+
     /// Makes the clause active under this id. The counts stay right only if none is active under it yet, which the checker makes sure of
     /// (`StepFault::IdInUse`).
     pub fn insert<F: ClauseList>(

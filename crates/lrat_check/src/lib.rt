@@ -25,6 +25,7 @@ pub mod lrat_reader;
 pub mod lrat_writer;
 mod marks;
 pub mod other_cubes;
+pub mod pieces;
 mod propagation;
 mod rat;
 pub mod refusal;
