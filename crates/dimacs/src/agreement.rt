@@ -41,13 +41,13 @@ impl Model for AgreementTexts {
 impl AgreementTexts {
     /// The texts of the three literals, if the table has them. It has none of a literal that says that its variable is false.
     #[inline(always)]
-    fn of(literals: AgreeingLiterals, table: &VariableTable) -> Option<AgreementTexts>
-        ensures { IfSome result (λ texts. texts ≡ flat_map clause_line ((neg_ℤ literals.first ∷ neg_ℤ literals.second ∷ literals.third ∷ []) ∷ (literals.first ∷ literals.second ∷ neg_ℤ literals.third ∷ []) ∷ [])) }
+    fn of(first: Lit, second: Lit, third: Lit, table: &VariableTable) -> Option<AgreementTexts>
+        ensures { IfSome result (λ texts. texts ≡ flat_map clause_line ((neg_ℤ first ∷ neg_ℤ second ∷ third ∷ []) ∷ (first ∷ second ∷ neg_ℤ third ∷ []) ∷ [])) }
     {
         Some(AgreementTexts {
-            first: table.text_of(literals.first)?,
-            second: table.text_of(literals.second)?,
-            third: table.text_of(literals.third)?,
+            first: table.text_of(first)?,
+            second: table.text_of(second)?,
+            third: table.text_of(third)?,
         })
     }
 
@@ -72,20 +72,17 @@ impl AgreementTexts {
 /// Writes the lines one after the other.
 #[inline(never)]
 fn put_one_by_one(
-    literals: AgreeingLiterals,
+    first: Lit,
+    second: Lit,
+    third: Lit,
     table: &VariableTable,
     buffer: &mut [u8],
     at: usize,
 ) -> usize
     requires { at + AGREEMENT ≤ length buffer.old }
     ensures within { result ≤ length buffer.new }
-    ensures written { take result buffer.new ≡ take at buffer.old ++ flat_map clause_line ((neg_ℤ literals.first ∷ neg_ℤ literals.second ∷ literals.third ∷ []) ∷ (literals.first ∷ literals.second ∷ neg_ℤ literals.third ∷ []) ∷ []) }
+    ensures written { take result buffer.new ≡ take at buffer.old ++ flat_map clause_line ((neg_ℤ first ∷ neg_ℤ second ∷ third ∷ []) ∷ (first ∷ second ∷ neg_ℤ third ∷ []) ∷ []) }
 {
-    let AgreeingLiterals {
-        first,
-        second,
-        third,
-    } = literals;
     let opposite = [first.negated(), second.negated(), third];
     let end = put_short_clause(&opposite, table, buffer, at);
     let same = [first, second, third.negated()];
@@ -104,8 +101,13 @@ pub(crate) fn put_both_lines(
     ensures within { result ≤ length buffer.new }
     ensures written { take result buffer.new ≡ take at buffer.old ++ flat_map clause_line ((neg_ℤ literals.first ∷ neg_ℤ literals.second ∷ literals.third ∷ []) ∷ (literals.first ∷ literals.second ∷ neg_ℤ literals.third ∷ []) ∷ []) }
 {
-    match AgreementTexts::of(literals, table) {
+    let AgreeingLiterals {
+        first,
+        second,
+        third,
+    } = literals;
+    match AgreementTexts::of(first, second, third, table) {
         Some(texts) => texts.put(buffer, at),
-        None => put_one_by_one(literals, table, buffer, at),
+        None => put_one_by_one(first, second, third, table, buffer, at),
     }
 }
