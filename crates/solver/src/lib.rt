@@ -22,6 +22,7 @@ mod minimise;
 mod prepared_formula;
 mod propagate;
 mod reduce;
+mod reductions;
 mod restart;
 mod schedule_heuristic;
 mod search;

@@ -7,12 +7,6 @@ use std::alloc::AllocError;
 use std::mem;
 use total_tables::{at, put, size};
 
-/// Conflicts before the first reduction. Other numbers moved the mean of the conflicts by less than the choice of runs does.
-pub const FIRST_REDUCTION: u32 = 500;
-
-/// Increment of the interval between two reductions, in conflicts.
-pub const REDUCTION_GROWTH: u32 = 50;
-
 /// Learned clauses up to this LBD are kept for ever: they connect two levels, and propagate again and again ("glue clauses").
 const TIER1_LBD: u32 = 2;
 
@@ -97,14 +91,12 @@ impl<'a> Search<'a> {
         Ok(())
     }
 
-    /// Reduces the clause database if a reduction is due.
+    /// Counts a conflict, and reduces the clause database if a reduction is due.
     pub(crate) fn reduce_in_time(&mut self) -> Result<(), AllocError> {
-        if self.conflicts < self.next_reduction {
-            return Ok(());
+        if self.reductions.count() {
+            self.reduce()?;
         }
-        self.reduction_gap = self.reduction_gap.saturating_add(REDUCTION_GROWTH);
-        self.next_reduction = self.conflicts.saturating_add(self.reduction_gap);
-        self.reduce()
+        Ok(())
     }
 }
 

@@ -2,7 +2,7 @@
 
 use crate::first_values::FirstValues;
 use crate::prepared_formula::PreparedFormula;
-use crate::reduce::FIRST_REDUCTION;
+use crate::reductions::{FIRST_REDUCTION, Reductions};
 use crate::restart::{Restarts, SHORT_UNIT, UNIT};
 use crate::schedule_heuristic::{MAX_STATES, ScheduleHeuristic};
 use assignment_trail::{Activities, FALSE, OPEN, OrderedTrail, TRUE};
@@ -69,9 +69,7 @@ pub struct Search<'a> {
     // When to restart and to drop clauses.
     pub(crate) conflicts: u32,
     pub(crate) restarts: Restarts,
-    /// The number of conflicts at which clauses are dropped next, and the interval that led to it.
-    pub(crate) next_reduction: u32,
-    pub(crate) reduction_gap: u32,
+    pub(crate) reductions: Reductions,
 }
 
 /// Drops each table. With a derived `Drop` every exit of a function that owns a search would drop its 41 tables one by one, which is most of
@@ -106,8 +104,7 @@ impl Drop for Search<'_> {
             shared: _shared,
             conflicts: _,
             restarts: _,
-            next_reduction: _,
-            reduction_gap: _,
+            reductions: _,
         } = self;
     }
 }
@@ -172,8 +169,7 @@ impl<'a> Search<'a> {
             shared: None,
             conflicts: 0,
             restarts: Restarts::new(UNIT),
-            next_reduction: FIRST_REDUCTION,
-            reduction_gap: FIRST_REDUCTION,
+            reductions: Reductions::after(FIRST_REDUCTION),
         })
     }
 
@@ -257,8 +253,7 @@ impl<'a> Search<'a> {
         }
         self.schedule = schedule;
         self.restarts = Restarts::new(unit);
-        self.next_reduction = first;
-        self.reduction_gap = first;
+        self.reductions = Reductions::after(first);
         Ok(())
     }
 

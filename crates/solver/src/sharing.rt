@@ -1,6 +1,7 @@
 //! What a search gives to others of the same formula, and what it takes in of theirs (Hamadi, Jabbour and Sais, "ManySAT: a parallel SAT
 //! solver", 2009).
 
+use crate::reductions::Reductions;
 use crate::restart::{ROUNDS_UNIT, Restarts};
 use crate::search::Search;
 use assignment_trail::{OPEN, TRUE};
@@ -89,6 +90,10 @@ impl<'a> Search<'a> {
 impl<'a> SharingLearner for Search<'a> {
     fn begin_rounds(&mut self) {
         self.restarts = Restarts::new(ROUNDS_UNIT);
+        // Along a schedule nothing is dropped before there are as many clauses as states.
+        if self.schedule.is_none() {
+            self.reductions = Reductions::in_rounds();
+        }
     }
 
     fn give(&mut self) -> SharedClauses {

@@ -1,0 +1,56 @@
+//! When learned clauses are dropped.
+
+/// Conflicts before the first reduction. Other numbers moved the mean of the conflicts by less than the choice of runs does.
+pub const FIRST_REDUCTION: u32 = 500;
+
+/// Increment of the interval between two reductions, in conflicts.
+const GROWTH: u32 = 50;
+
+/// Conflicts before the first reduction of a search that goes on in rounds. It has the clauses of three others beside its own, and each takes time at
+/// every literal that it watches: ROUNDS_NUMBERS
+const ROUNDS_FIRST: u32 = 200;
+
+/// The increment there.
+const ROUNDS_GROWTH: u32 = 20;
+
+/// Counts conflicts from one reduction of the clause database to the next.
+#[derive(Clone, Copy)]
+pub struct Reductions {
+    /// Conflicts of the interval at hand.
+    gap: u32,
+    /// By how many the next interval is longer.
+    growth: u32,
+    /// Conflicts up to the next reduction.
+    left: u32,
+}
+
+impl Reductions {
+    /// The first reduction comes after this many conflicts.
+    pub fn after(first: u32) -> Reductions {
+        Reductions {
+            gap: first,
+            growth: GROWTH,
+            left: first,
+        }
+    }
+
+    /// Those of a search that goes on in rounds.
+    pub fn in_rounds() -> Reductions {
+        Reductions {
+            gap: ROUNDS_FIRST,
+            growth: ROUNDS_GROWTH,
+            left: ROUNDS_FIRST,
+        }
+    }
+
+    /// Counts a conflict, and answers whether a reduction is due.
+    pub fn count(&mut self) -> bool {
+        self.left = self.left.saturating_sub(1);
+        if self.left > 0 {
+            return false;
+        }
+        self.gap = self.gap.saturating_add(self.growth);
+        self.left = self.gap;
+        true
+    }
+}
