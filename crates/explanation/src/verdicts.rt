@@ -115,7 +115,7 @@ fn explain_at_once(
     if explain_sourceless(alloc, notes, trace, places)? {
         return Ok(true);
     }
-    Ok(explain_counted(alloc, notes, trace, places))
+    explain_counted(alloc, notes, trace, places)
 }
 
 /// Notes that the checker refuses the derivation that the search found, so that nothing of it is said.

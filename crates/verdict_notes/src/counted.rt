@@ -1,10 +1,10 @@
 //! Updates that are more than the operations from which they can read.
 
-use crate::held_value::initial_value;
 use crate::sentence::Sentence;
 use crate::shown_places::ShownPlaces;
 use note_text::{Notes, decimal};
-use std::alloc::Global;
+use std::alloc::{AllocError, Global};
+use std::collections::HashMap;
 use trace_semantics::operation::Op;
 use trace_semantics::trace::Trace;
 
@@ -57,50 +57,40 @@ impl<'t> CountedValue<'t> {
     fn is_left_by(self, op: &Op) -> bool {
         op.written_value() == Some(self.value) && op.location().as_bytes() == self.location
     }
+}
 
-    /// Returns whether it is the initial value.
-    fn is_initial(self, trace: &Trace) -> bool {
-        initial_value(trace, self.location) == Some(self.value)
-    }
+/// What an operation or the trace adds to a balance.
+#[derive(Clone, Copy)]
+enum Part {
+    Update,
+    Final,
+    Initial,
+    Writer,
+}
 
-    /// Returns whether it is the final value.
-    fn is_final(self, trace: &Trace) -> bool {
-        for entry in trace.final_values() {
-            if entry.0.as_bytes() == self.location {
-                return entry.1 == self.value;
-            }
-        }
-        false
-    }
-
-    /// The balance of what is no operation: the initial and the final value.
-    fn outside_balance(self, trace: &Trace) -> Balance {
+impl Balance {
+    /// Nobody needs the value, and nobody gives it.
+    fn even() -> Balance {
         Balance {
             updates: 0,
-            finals: u64::from(self.is_final(trace)),
-            initials: u64::from(self.is_initial(trace)),
+            finals: 0,
+            initials: 0,
             writers: 0,
         }
     }
 
-    /// The balance.
-    fn balance(self, trace: &Trace) -> Balance {
-        let mut balance = self.outside_balance(trace);
-        for process in trace.processes() {
-            for op in process.operations.as_slice() {
-                if self.is_read_by(op) {
-                    balance.updates = balance.updates.saturating_add(1);
-                }
-                if self.is_left_by(op) {
-                    balance.writers = balance.writers.saturating_add(1);
-                }
-            }
+    /// The balance with this part.
+    fn with(self, part: Part) -> Balance {
+        let mut balance = self;
+        match part {
+            Part::Update => balance.updates = balance.updates.saturating_add(1),
+            Part::Final => balance.finals = 1,
+            Part::Initial => balance.initials = 1,
+            Part::Writer => balance.writers = balance.writers.saturating_add(1),
         }
         balance
     }
-}
 
-impl Balance {
     /// The number of those that need it.
     fn needed(self) -> u64 {
         self.updates.saturating_add(self.finals)
@@ -118,27 +108,80 @@ impl Balance {
     }
 }
 
-/// Gives the first value that these updates read and of which there are too few.
-fn first_short_in<'t>(trace: &'t Trace, ops: &'t [Op]) -> Option<CountedValue<'t>> {
-    for op in ops {
-        if let Some(read) = CountedValue::of_update(op) {
-            if read.balance(trace).is_short() {
-                return Some(read);
-            }
-        }
-    }
-    None
+/// The balances of all values that somebody needs or gives. They are made in one walk, since a long trace may have as many values as updates.
+#[derive(Drop)]
+struct Balances<'t> {
+    of_values: HashMap<(&'t [u8], u64), Balance>,
 }
 
-/// Gives the first value that updates read and of which there are too few.
-fn first_short<'t>(trace: &'t Trace) -> Option<CountedValue<'t>> {
-    for process in trace.processes() {
-        let short = first_short_in(trace, process.operations.as_slice());
-        if short.is_some() {
-            return short;
+impl<'t> Balances<'t> {
+    /// The balances of the trace's values.
+    fn of(alloc: Global, trace: &'t Trace) -> Result<Balances<'t>, AllocError> {
+        let mut balances = Balances {
+            of_values: HashMap::new(alloc),
+        };
+        for entry in trace.initial() {
+            balances.add(entry.0.as_bytes(), entry.1, Part::Initial)?;
+        }
+        for entry in trace.final_values() {
+            balances.add(entry.0.as_bytes(), entry.1, Part::Final)?;
+        }
+        for process in trace.processes() {
+            for op in process.operations.as_slice() {
+                balances.add_operation(op)?;
+            }
+        }
+        Ok(balances)
+    }
+
+    /// The balance of the value.
+    fn balance(&self, location: &'t [u8], value: u64) -> Balance {
+        match self.of_values.get(&(location, value)) {
+            Some(balance) => *balance,
+            None => Balance::even(),
         }
     }
-    None
+
+    fn add(&mut self, location: &'t [u8], value: u64, part: Part) -> Result<(), AllocError> {
+        let balance = self.balance(location, value).with(part);
+        self.of_values.insert((location, value), balance)?;
+        Ok(())
+    }
+
+    /// Adds what the operation needs, if it is an update, and what it gives.
+    fn add_operation(&mut self, op: &'t Op) -> Result<(), AllocError> {
+        if let Some(read) = CountedValue::of_update(op) {
+            self.add(read.location, read.value, Part::Update)?;
+        }
+        if let Some(left) = op.written_value() {
+            self.add(op.location().as_bytes(), left, Part::Writer)?;
+        }
+        Ok(())
+    }
+
+    /// Gives the first value that these updates read and of which there are too few, with its balance.
+    fn first_short_in(&self, ops: &'t [Op]) -> Option<(CountedValue<'t>, Balance)> {
+        for op in ops {
+            if let Some(read) = CountedValue::of_update(op) {
+                let balance = self.balance(read.location, read.value);
+                if balance.is_short() {
+                    return Some((read, balance));
+                }
+            }
+        }
+        None
+    }
+
+    /// Gives the first value that updates read and of which there are too few, with its balance.
+    fn first_short(&self, trace: &'t Trace) -> Option<(CountedValue<'t>, Balance)> {
+        for process in trace.processes() {
+            let short = self.first_short_in(process.operations.as_slice());
+            if short.is_some() {
+                return short;
+            }
+        }
+        None
+    }
 }
 
 /// Adds who needs the value, as `3 updates and the final value need`.
@@ -291,11 +334,11 @@ pub fn explain_counted(
     notes: &mut Notes,
     trace: &Trace,
     places: &ShownPlaces,
-) -> bool {
-    let Some(short) = first_short(trace) else {
-        return false;
+) -> Result<bool, AllocError> {
+    let balances = Balances::of(alloc, trace)?;
+    let Some((short, balance)) = balances.first_short(trace) else {
+        return Ok(false);
     };
-    let balance = short.balance(trace);
     explain_balance(alloc, notes, short, balance);
     explain_names(alloc, notes, trace, places, short, NamedRole::Reader);
     // Of a lock these are those who do not give it back; of a counter they are all.
@@ -304,5 +347,5 @@ pub fn explain_counted(
     }
     explain_names(alloc, notes, trace, places, short, NamedRole::Writer);
     notes.note(&[b"no two updates read from one source: the first of them overwrites it"]);
-    true
+    Ok(true)
 }
