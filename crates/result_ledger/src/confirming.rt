@@ -33,7 +33,7 @@ fn said_model(outcome: &Option<Outcome>) -> Option<&Assignment>
 }
 
 /// The derivation by which the answer claims that there is no model, not yet checked.
-fn said_derivation(outcome: &Option<Outcome>) -> Option<&Derivation>
+pub(crate) fn said_derivation(outcome: &Option<Outcome>) -> Option<&Derivation>
     ensures { MatchOption result
         ((steps : List Step) → outcome.now ≡ Some (Refuted steps) → ⊥)
         (λ found. outcome.now ≡ Some (Refuted found.now)) }

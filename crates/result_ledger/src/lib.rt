@@ -2,6 +2,7 @@
 #![tactic(auto)]
 
 mod confirming;
+mod derivation_pieces;
 mod derivations;
 mod entering;
 mod entry_fault;

@@ -4,6 +4,7 @@ ghost use Rattle.result_ledger.specs.Verdict.{HasProofAt};
 ghost use Rattle.result_ledger.specs.Pieces.{AreWithoutBetween, piece_start};
 
 use crate::confirming::{is_proved, is_served};
+use crate::derivation_pieces::is_proved_in_pieces;
 use crate::slot::Slot;
 use cube_jobs::options::needed;
 use dimacs::ClauseList;
@@ -110,6 +111,25 @@ fn without_proof_in_pieces<R: Threads + Sync, L: ClauseList + Sync>(
     joined(alloc, formula, slots, size, pieces)
 }
 
+/// The one leaf, if it is not proved. A long derivation is checked in pieces first, as many as workers. If those do not make up an accepted one, since a step is
+/// refused or memory runs out, it is checked as a whole.
+fn without_proof_of_one<R: Threads + Sync, L: ClauseList + Sync>(
+    alloc: Global,
+    rt: &R,
+    formula: &L,
+    slots: &[Slot],
+    workers: u32,
+) -> Result<Vec<u32>, AllocError>
+    requires one { length slots.now ≡ 1 }
+    ensures { IfOk result (λ leaves. AreWithoutBetween (HasProofAt (L.formula formula.now).clauses slots.now) 0 (length slots.now) leaves.items) }
+{
+    let proved = is_proved_in_pieces(alloc, rt, formula, &slots[0], workers);
+    if proved {
+        return Ok(Vec::new(alloc));
+    }
+    without_proof_between(alloc, formula, slots, 0, slots.len())
+}
+
 /// The leaves that are not proved, rising, looked for by at most `workers` workers.
 pub(crate) fn without_proof<R: Threads + Sync, L: ClauseList + Sync>(
     alloc: Global,
@@ -122,6 +142,9 @@ pub(crate) fn without_proof<R: Threads + Sync, L: ClauseList + Sync>(
     requires workers { (1 ≤ workers) × (workers ≤ 8) }
     ensures { IfOk result (λ leaves. AreWithoutBetween (HasProofAt (L.formula formula.now).clauses slots.now) 0 (length slots.now) leaves.items) }
 {
+    if slots.len() == 1 && workers >= 2 {
+        return without_proof_of_one(alloc, rt, formula, slots, workers);
+    }
     let workers = needed(workers, slots.len());
     if workers < 2 {
         without_proof_between(alloc, formula, slots, 0, slots.len())

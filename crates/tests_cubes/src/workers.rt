@@ -3,6 +3,7 @@
 mod boards;
 mod confirmations;
 mod dealings;
+mod long_derivations;
 mod refused_memory;
 mod searches;
 mod seats;

@@ -179,23 +179,22 @@ const MOST_STEPS: u64 = 1_000_000;
 /// From this number of steps on a derivation for the whole stands once, in a tree of one leaf. A shorter one is copied to each leaf of the tree that was asked for.
 const LONG_STEPS: u64 = 10_000;
 
-/// Gives the refutation of the whole as one cube, if the solver has one.
+/// Gives the refutation of the whole as one cube, if the solver has one. As many workers check it as search.
 fn refute_as_one_cube<R: Threads + Wait + Sync, S: CubeSolver + Sync, G: Gate + Sync>(
-    alloc: Global,
-    rt: &R,
+    run: &SearchRun<'_, R, G>,
     reduced: &Reduced,
     clauses: &TraceClauses,
     solver: &S,
-    gate: &G,
 ) -> Result<Option<Refutation>, SearchFault>
     requires { clauses.now ≡ reduced.now.kept }
     ensures { IfOk result (λ found. IfSome found (λ refutation. IsRefutation (clauses_of (kept_trace reduced.now.whole)) refutation × HasNoSchedule reduced.now.whole)) }
 {
-    // One worker, a tree of one leaf, and one round. These numbers are in their ranges, so there are such options.
-    let Ok(one_cube) = Options::new(1, 0, MOST_STEPS, 1) else {
+    let alloc = run.alloc;
+    // A tree of one leaf, and one round. These numbers are in their ranges, so there are such options.
+    let Ok(one_cube) = Options::new(run.options.workers(), 0, MOST_STEPS, 1) else {
         return Ok(None);
     };
-    let decided = search_in_rounds(alloc, rt, clauses, solver, &one_cube, gate)?;
+    let decided = search_in_rounds(alloc, run.rt, clauses, solver, &one_cube, run.gate)?;
     match decision_of(alloc, reduced, clauses, &one_cube, decided)? {
         Decision::Inconsistent(refutation) => Ok(Some(refutation)),
         _ => Ok(None),
@@ -205,36 +204,33 @@ fn refute_as_one_cube<R: Threads + Wait + Sync, S: CubeSolver + Sync, G: Gate + 
 /// Gives a refutation by counting, if there is one that the budget of the search was too small for. Its tree is one leaf, since each cube would have
 /// the same long derivation. A search that may have no conflict decides nothing, and neither does counting for it.
 fn refute_by_counting<R: Threads + Wait + Sync, G: Gate + Sync>(
-    alloc: Global,
-    rt: &R,
+    run: &SearchRun<'_, R, G>,
     reduced: &Reduced,
     clauses: &TraceClauses,
-    options: &Options,
-    gate: &G,
 ) -> Result<Option<Refutation>, SearchFault>
     requires { clauses.now ≡ reduced.now.kept }
-    ensures { IfOk result (λ found. IfSome found (λ refutation. IsDecided options.now reduced.now.whole (Inconsistent refutation))) }
+    ensures { IfOk result (λ found. IfSome found (λ refutation. IsDecided run.now.options.now reduced.now.whole (Inconsistent refutation))) }
 {
+    let alloc = run.alloc;
+    let budget = run.options.budget();
     // With a budget from `MOST_STEPS` on, the search has counted with as many steps before.
-    if options.budget() == 0 || options.budget() >= MOST_STEPS {
+    if budget == 0 || budget >= MOST_STEPS {
         return Ok(None);
     }
     let reads_from = reads_from_table(alloc, clauses)?;
     let encoding = guide_to_order(clauses).with_reads_from(&reads_from);
     let prepared = PreparedFormula::of(alloc, clauses, encoding)?;
     let counter = SourceCounter::of(&prepared);
-    refute_as_one_cube(alloc, rt, reduced, clauses, &counter, gate)
+    refute_as_one_cube(run, reduced, clauses, &counter)
 }
 
 /// Gives the refutation of the whole that the search before the cubes has found, as one cube, if it is long: else each leaf of the certificate would have a copy of it,
 /// and `recheck` would check each.
 fn long_refutation<R: Threads + Wait + Sync, G: Gate + Sync>(
-    alloc: Global,
-    rt: &R,
+    run: &SearchRun<'_, R, G>,
     reduced: &Reduced,
     clauses: &TraceClauses,
     prepared: &PreparedFormula,
-    gate: &G,
 ) -> Result<Option<Refutation>, SearchFault>
     requires { clauses.now ≡ reduced.now.kept }
     ensures { IfOk result (λ found. IfSome found (λ refutation. IsRefutation (clauses_of (kept_trace reduced.now.whole)) refutation × HasNoSchedule reduced.now.whole)) }
@@ -243,7 +239,7 @@ fn long_refutation<R: Threads + Wait + Sync, G: Gate + Sync>(
     if steps < LONG_STEPS || steps > MOST_STEPS {
         return Ok(None);
     }
-    refute_as_one_cube(alloc, rt, reduced, clauses, prepared, gate)
+    refute_as_one_cube(run, reduced, clauses, prepared)
 }
 
 /// Decides whether the whole trace has a legal schedule, within the limits of the options.
@@ -262,15 +258,21 @@ pub fn decide<R: Threads + Wait + Sync, G: Gate + Sync>(
         trace: reduced.kept(),
         clauses: &clauses,
     };
+    let run = SearchRun {
+        alloc,
+        rt,
+        options,
+        gate,
+    };
     let prepared = prepared_formula(alloc, rt, kept, &reads_from, options, gate)?;
-    if let Some(refutation) = long_refutation(alloc, rt, reduced, &clauses, &prepared, gate)? {
+    if let Some(refutation) = long_refutation(&run, reduced, &clauses, &prepared)? {
         return Ok(Decision::Inconsistent(refutation));
     }
     let decided = search_in_rounds(alloc, rt, &clauses, &prepared, options, gate)?;
     let decision = decision_of(alloc, reduced, &clauses, options, decided)?;
     // Counting with more steps comes last, as it prepares the formula anew.
     if let Decision::Unknown(_) = &decision {
-        if let Some(refutation) = refute_by_counting(alloc, rt, reduced, &clauses, options, gate)? {
+        if let Some(refutation) = refute_by_counting(&run, reduced, &clauses)? {
             return Ok(Decision::Inconsistent(refutation));
         }
     }

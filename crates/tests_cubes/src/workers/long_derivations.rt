@@ -1,0 +1,110 @@
+//! A long derivation for the one leaf of a tree, of which each worker checks a piece: any number of them comes to the same verdict.
+ghost use Rattle.std.specs.Prelude.{◌≤◌};
+
+use crate::workers::searches::{formula_of, tree_of};
+use cube_jobs::{Job, Outcome};
+use dimacs::{Clause, Formula, Lit};
+use lrat_check::derivation::{Derivation, Step};
+use lrat_check::hints::Hints;
+use result_ledger::{Ledger, Verdict};
+use std::alloc::{AllocError, Global};
+use std::process::Abort;
+use std::test::Fail;
+use std::thread::Threads;
+
+/// Each choice of truth values for both variables is ruled out by one clause.
+const ALL_RULED_OUT: &str = "p cnf 2 4\n1 2 0\n1 -2 0\n-1 2 0\n-1 -2 0\n";
+
+/// How many steps the derivations have. A derivation of 5,000 is checked in pieces.
+const STEPS: u64 = 6_000;
+
+/// No step of a derivation stands there.
+const NOWHERE: u64 = 10_000;
+
+/// The places of a step that is wrong and of the empty clause, and whether the derivation is accepted.
+type DerivationCase = (u64, u64, bool);
+
+const CASES: [DerivationCase; 6] = [
+    (NOWHERE, 5_999, true),
+    (NOWHERE, NOWHERE, false),
+    (5_900, 5_999, false),
+    (10, 5_999, false),
+    // What stands behind the empty clause is not looked at.
+    (5_900, 2_000, true),
+    (NOWHERE, 1, true),
+];
+
+/// The step that adds the clause of these literals under this id.
+fn addition(alloc: Global, id: u64, literals: &[Lit], hints: &[i64]) -> Result<Step, AllocError> {
+    Ok(Step::Addition {
+        id,
+        literals: Clause::from_slice(alloc, literals)?,
+        hints: Hints::compact(alloc, hints)?,
+    })
+}
+
+/// The step at this place. It adds the first variable, which follows from the first two clauses, but of which a wrong one has the first alone. At the place
+/// of the empty clause it adds that.
+fn step_at(alloc: Global, place: u64, wrong: u64, empty: u64) -> Result<Step, AllocError> {
+    let id = place.saturating_add(5);
+    let first = Lit::new(1).unwrap_or_default();
+    if place == wrong {
+        addition(alloc, id, &[first], &[1])
+    } else if place == empty {
+        addition(alloc, id, &[], &[5, 3, 4])
+    } else {
+        addition(alloc, id, &[first], &[1, 2])
+    }
+}
+
+/// A derivation of many steps with a wrong one and the empty clause at these places.
+fn derivation_with(alloc: Global, wrong: u64, empty: u64) -> Result<Derivation, AllocError> {
+    let mut steps = Vec::new(alloc);
+    for place in 0..STEPS {
+        steps.push(step_at(alloc, place, wrong, empty)?)?;
+    }
+    Ok(Derivation::new(steps))
+}
+
+/// The ledger of a tree of one leaf, with this derivation for its answer.
+fn ledger_with(rt: &impl Abort, alloc: Global, derivation: Derivation) -> Result<Ledger, Fail> {
+    let tree = tree_of(rt, alloc, b"leaf\n");
+    let mut ledger = Ledger::new(alloc, &tree)?;
+    let answer = Job::new(alloc, 0, &[]).settle(Outcome::Refuted(derivation));
+    assert!(rt; ledger.enter(answer).is_ok());
+    Ok(ledger)
+}
+
+/// Returns whether this number of workers finds that the one leaf is refuted, or, if not, that it is open.
+fn is_found<R: Threads + Sync>(
+    rt: &R,
+    alloc: Global,
+    formula: &Formula,
+    ledger: &Ledger,
+    workers: u32,
+    refuted: bool,
+) -> Result<bool, Fail>
+    requires { (1 ≤ workers) × (workers ≤ 8) }
+{
+    let verdict = ledger.confirm(alloc, rt, formula, workers)?;
+    Ok(match verdict {
+        Verdict::Consistent(_, _) => false,
+        Verdict::Inconsistent(count) => count == 1 && refuted,
+        Verdict::Unknown(leaves) => leaves.as_slice() == [0] && !refuted,
+    })
+}
+
+#[test]
+fn pieces_of_a_long_derivation_are_found_the_same(rt: HostRuntime) -> Result<(), Fail> {
+    let alloc = rt.alloc();
+    let formula = formula_of(&rt, alloc, ALL_RULED_OUT);
+    for (wrong, empty, refuted) in &CASES {
+        let derivation = derivation_with(alloc, *wrong, *empty)?;
+        let ledger = ledger_with(&rt, alloc, derivation)?;
+        for workers in 1..5 {
+            let is_right = is_found(&rt, alloc, &formula, &ledger, workers, *refuted)?;
+            assert!(&rt; is_right, "{workers} workers, {wrong}, {empty}");
+        }
+    }
+    Ok(())
+}
