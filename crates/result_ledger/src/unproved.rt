@@ -123,8 +123,8 @@ fn without_proof_of_one<R: Threads + Sync, L: ClauseList + Sync>(
     requires one { length slots.now ≡ 1 }
     ensures { IfOk result (λ leaves. AreWithoutBetween (HasProofAt (L.formula formula.now).clauses slots.now) 0 (length slots.now) leaves.items) }
 {
-    let proved = is_proved_in_pieces(alloc, rt, formula, &slots[0], workers);
-    if proved {
+    let passed = is_proved_in_pieces(alloc, rt, formula, &slots[0], workers);
+    if passed {
         return Ok(Vec::new(alloc));
     }
     without_proof_between(alloc, formula, slots, 0, slots.len())
