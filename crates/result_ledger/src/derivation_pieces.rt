@@ -13,8 +13,9 @@ use lrat_check::pieces::check_piece;
 use std::alloc::{AllocError, Global};
 use std::thread::{Threads, map_indices};
 
-/// From this number of steps on a derivation is checked in pieces. One worker checks fewer in a few milliseconds, of which several would save little.
-const LONG_STEPS: usize = 5_000;
+/// A derivation whose check takes this long or longer, by the measure of `cost_of`, is checked in pieces. One worker checks a shorter one in a tenth of a
+/// second, of which several would save little: if a step is RAT, each piece first counts the literals of the formula.
+const LONG_CHECK: usize = 100_000;
 
 /// A piece of a derivation whose steps are right, one after the other.
 #[derive(Clone, Copy)]
@@ -39,19 +40,19 @@ fn cost_of(step: &Step, room: &mut Vec<i64>) -> Result<usize, AllocError> {
 }
 
 /// The same measure, of all steps together.
-fn cost_of_all(steps: &[Step], room: &mut Vec<i64>) -> Result<usize, AllocError> {
+fn cost_of_all(alloc: Global, steps: &[Step]) -> Result<usize, AllocError> {
+    let mut room = Vec::new(alloc);
     let mut cost: usize = 0;
     for step in steps {
-        cost = cost.saturating_add(cost_of(step, room)?);
+        cost = cost.saturating_add(cost_of(step, &mut room)?);
     }
     Ok(cost)
 }
 
-/// The places, rising, at which the steps are cut into this number of pieces, so that each takes about the same time. Nothing rests on where they are.
-fn cuts_of(alloc: Global, steps: &[Step], pieces: usize) -> Result<Vec<usize>, AllocError> {
+/// The places, rising, at which the steps are cut, so that each piece takes about this long by the same measure. Nothing rests on where they are.
+fn cuts_of(alloc: Global, steps: &[Step], share: usize) -> Result<Vec<usize>, AllocError> {
     let mut room = Vec::new(alloc);
     let mut cuts = Vec::new(alloc);
-    let share = cost_of_all(steps, &mut room)? / pieces.max(1);
     let mut cost: usize = 0;
     cuts.push(0)?;
     for place in 0..steps.len() {
@@ -121,8 +122,8 @@ fn make_up<L: ClauseList>(
     false
 }
 
-/// Returns whether this number of workers finds that the derivation is accepted for the cube. If not, nothing is known of it: a step may be refused, or
-/// memory have run out.
+/// Returns whether this number of workers finds that the derivation is accepted for the cube. If not, nothing is known of it: it may be short, a step be
+/// refused, or memory have run out.
 fn is_accepted_in_pieces<R: Threads + Sync, L: ClauseList + Sync>(
     alloc: Global,
     rt: &R,
@@ -134,7 +135,11 @@ fn is_accepted_in_pieces<R: Threads + Sync, L: ClauseList + Sync>(
     ensures { IfOk result (λ accepted. IsTrue accepted → IsAccepted (L.formula formula.now).clauses cube.now derivation.now) }
 {
     let count = workers as usize;
-    let cuts = cuts_of(alloc, derivation.steps(), count)?;
+    let cost = cost_of_all(alloc, derivation.steps())?;
+    if cost < LONG_CHECK {
+        return Ok(false);
+    }
+    let cuts = cuts_of(alloc, derivation.steps(), cost / count.max(1))?;
     let cuts = cuts.as_slice();
     let in_piece = move |number: usize| -> Option<PassedPiece>
         ensures { IfSome result (λ piece. IsPassed (L.formula formula.entry.now).clauses cube.entry.now derivation.entry.now piece) }
@@ -157,7 +162,7 @@ pub(crate) fn is_proved_in_pieces<R: Threads + Sync, L: ClauseList + Sync>(
     let Some(derivation) = said_derivation(&slot.outcome) else {
         return false;
     };
-    if derivation.steps().len() < LONG_STEPS || !can_be_written(derivation) {
+    if !can_be_written(derivation) {
         return false;
     }
     let cube = slot.cube.as_slice();

@@ -15,8 +15,11 @@ use std::thread::Threads;
 /// Each choice of truth values for both variables is ruled out by one clause.
 const ALL_RULED_OUT: &str = "p cnf 2 4\n1 2 0\n1 -2 0\n-1 2 0\n-1 -2 0\n";
 
-/// How many steps the derivations have. A derivation of 5,000 is checked in pieces.
+/// How many steps the derivations have.
 const STEPS: u64 = 6_000;
+
+/// The hints of a step, of which the first and the last would do. A derivation with 100,000 steps and hints together is checked in pieces.
+const HINTS: [i64; 20] = [1, 1, 1, 1, 1, 1, 1, 1, 1, 1, 1, 1, 1, 1, 1, 1, 1, 1, 1, 2];
 
 /// No step of a derivation stands there.
 const NOWHERE: u64 = 10_000;
@@ -53,7 +56,7 @@ fn step_at(alloc: Global, place: u64, wrong: u64, empty: u64) -> Result<Step, Al
     } else if place == empty {
         addition(alloc, id, &[], &[5, 3, 4])
     } else {
-        addition(alloc, id, &[first], &[1, 2])
+        addition(alloc, id, &[first], &HINTS)
     }
 }
 
@@ -103,7 +106,7 @@ fn pieces_of_a_long_derivation_are_found_the_same(rt: HostRuntime) -> Result<(),
         let ledger = ledger_with(&rt, alloc, derivation)?;
         for workers in 1..5 {
             let is_right = is_found(&rt, alloc, &formula, &ledger, workers, *refuted)?;
-            assert!(&rt; is_right, "{workers} workers, {wrong}, {empty}");
+            assert!(&rt; is_right, "{workers} workers");
         }
     }
     Ok(())
