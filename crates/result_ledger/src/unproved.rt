@@ -1,6 +1,6 @@
 //! Which leaves are not proved: they have no derivation that can be written and is accepted.
-ghost use Rattle.std.specs.Prelude.{◌≡◌, ℕ, ◌+◌, ◌<◌, ◌≤◌, length, slice_index_or, IfOk};
-ghost use Rattle.result_ledger.specs.Verdict.{HasProofAt};
+ghost use Rattle.std.specs.Prelude.{◌≡◌, ℕ, ◌+◌, ◌<◌, ◌≤◌, length, slice_index_or, IfOk, IfSome};
+ghost use Rattle.result_ledger.specs.Verdict.{HasProofAt, IsProofAnswer};
 ghost use Rattle.result_ledger.specs.Pieces.{AreWithoutBetween, piece_start};
 
 use crate::confirming::{is_proved, is_served};
@@ -12,21 +12,23 @@ use std::alloc::{AllocError, Global};
 use std::thread::{Threads, map_indices};
 
 /// The leaves that are not proved, rising, of those from the one number on and before the other. A derivation that was accepted for one
-/// leaf is not checked again for another that it serves.
-fn without_proof_between<L: ClauseList>(
+/// leaf is not checked again for another that it serves; nor is that of a slot that is proved already.
+fn without_proof_between<'a, L: ClauseList>(
     alloc: Global,
     formula: &L,
-    slots: &[Slot],
+    slots: &'a [Slot],
+    proved_before: Option<&'a Slot>,
     from: usize,
     end: usize,
 ) -> Result<Vec<u32>, AllocError>
+    requires proved { IfSome proved_before (λ first. IsProofAnswer (L.formula formula.now).clauses first.now) }
     requires few { length slots.now ≤ 1024 }
     requires within { (from ≤ end) × (end ≤ length slots.now) }
     ensures { IfOk result (λ leaves. AreWithoutBetween (HasProofAt (L.formula formula.now).clauses slots.now) from end leaves.items) }
 {
     let mut leaves = Vec::new(alloc);
-    // The last slot that the checker accepted, for the next ones to be compared with. Each piece begins without one.
-    let mut known = None;
+    // The last slot that the checker accepted, for the next ones to be compared with.
+    let mut known = proved_before;
     for leaf in from..end {
         let slot = &slots[leaf];
         let served = is_served(formula, known, slot);
@@ -53,20 +55,22 @@ fn start_of(size: usize, count: usize, piece: usize) -> usize
 }
 
 /// The leaves of a piece that are not proved, rising.
-fn without_proof_in<L: ClauseList>(
+fn without_proof_in<'a, L: ClauseList>(
     alloc: Global,
     formula: &L,
-    slots: &[Slot],
+    slots: &'a [Slot],
+    proved_before: Option<&'a Slot>,
     size: usize,
     piece: usize,
 ) -> Result<Vec<u32>, AllocError>
+    requires proved { IfSome proved_before (λ first. IsProofAnswer (L.formula formula.now).clauses first.now) }
     requires few { length slots.now ≤ 1024 }
     requires piece { (size ≤ 1024) × (piece < 8) }
     ensures { IfOk result (λ leaves. AreWithoutBetween (HasProofAt (L.formula formula.now).clauses slots.now) (piece_start size (length slots.now) piece) (piece_start size (length slots.now) (piece + 1)) leaves.items) }
 {
     let from = start_of(size, slots.len(), piece);
     let end = start_of(size, slots.len(), piece + 1);
-    without_proof_between(alloc, formula, slots, from, end)
+    without_proof_between(alloc, formula, slots, proved_before, from, end)
 }
 
 /// The leaves of all pieces, in order, given those of each piece. The formula, the slots and the size stand here for the clauses, which name them.
@@ -95,8 +99,10 @@ fn without_proof_in_pieces<R: Threads + Sync, L: ClauseList + Sync>(
     rt: &R,
     formula: &L,
     slots: &[Slot],
+    proved_before: Option<&Slot>,
     workers: u32,
 ) -> Result<Vec<u32>, AllocError>
+    requires proved { IfSome proved_before (λ first. IsProofAnswer (L.formula formula.now).clauses first.now) }
     requires few { length slots.now ≤ 1024 }
     requires workers { (1 ≤ workers) × (workers ≤ 8) }
     ensures { IfOk result (λ leaves. AreWithoutBetween (HasProofAt (L.formula formula.now).clauses slots.now) 0 (length slots.now) leaves.items) }
@@ -104,30 +110,27 @@ fn without_proof_in_pieces<R: Threads + Sync, L: ClauseList + Sync>(
     let count = workers as usize;
     let size = slots.len().div_ceil(count);
     let in_piece = move |piece: usize| -> Result<Vec<u32>, AllocError>
-        requires { (piece < 8) × (size ≤ 1024) × (length slots.now ≤ 1024) }
+        requires { (piece < 8) × (size ≤ 1024) × (length slots.now ≤ 1024) × IfSome proved_before (λ first. IsProofAnswer (L.formula formula.now).clauses first.now) }
         ensures { IfOk result (λ leaves. AreWithoutBetween (HasProofAt (L.formula formula.entry.now).clauses slots.entry.now) (piece_start size (length slots.entry.now) piece) (piece_start size (length slots.entry.now) (piece + 1)) leaves.items) }
-    { without_proof_in(alloc, formula, slots, size, piece) };
+    { without_proof_in(alloc, formula, slots, proved_before, size, piece) };
     let pieces = map_indices(rt, alloc, count, &in_piece)?;
     joined(alloc, formula, slots, size, pieces)
 }
 
-/// The one leaf, if it is not proved. A long derivation is checked in pieces first, as many as workers. If those do not make up an accepted one, since a step is
-/// refused or memory runs out, it is checked as a whole.
-fn without_proof_of_one<R: Threads + Sync, L: ClauseList + Sync>(
+/// The first slot, if its derivation is long and this number of workers finds that it is proved. Where one search has refuted the whole, all others have the same
+/// derivation.
+fn first_by_all<'a, R: Threads + Sync, L: ClauseList + Sync>(
     alloc: Global,
     rt: &R,
     formula: &L,
-    slots: &[Slot],
+    slots: &'a [Slot],
     workers: u32,
-) -> Result<Vec<u32>, AllocError>
-    requires one { length slots.now ≡ 1 }
-    ensures { IfOk result (λ leaves. AreWithoutBetween (HasProofAt (L.formula formula.now).clauses slots.now) 0 (length slots.now) leaves.items) }
+) -> Option<&'a Slot>
+    ensures { IfSome result (λ first. IsProofAnswer (L.formula formula.now).clauses first.now) }
 {
-    let passed = is_proved_in_pieces(alloc, rt, formula, &slots[0], workers);
-    if passed {
-        return Ok(Vec::new(alloc));
-    }
-    without_proof_between(alloc, formula, slots, 0, slots.len())
+    let first = slots.first()?;
+    let passed = workers >= 2 && is_proved_in_pieces(alloc, rt, formula, first, workers);
+    if passed { Some(first) } else { None }
 }
 
 /// The leaves that are not proved, rising, looked for by at most `workers` workers.
@@ -142,13 +145,11 @@ pub(crate) fn without_proof<R: Threads + Sync, L: ClauseList + Sync>(
     requires workers { (1 ≤ workers) × (workers ≤ 8) }
     ensures { IfOk result (λ leaves. AreWithoutBetween (HasProofAt (L.formula formula.now).clauses slots.now) 0 (length slots.now) leaves.items) }
 {
-    if slots.len() == 1 && workers >= 2 {
-        return without_proof_of_one(alloc, rt, formula, slots, workers);
-    }
+    let first = first_by_all(alloc, rt, formula, slots, workers);
     let workers = needed(workers, slots.len());
     if workers < 2 {
-        without_proof_between(alloc, formula, slots, 0, slots.len())
+        without_proof_between(alloc, formula, slots, first, 0, slots.len())
     } else {
-        without_proof_in_pieces(alloc, rt, formula, slots, workers)
+        without_proof_in_pieces(alloc, rt, formula, slots, first, workers)
     }
 }
