@@ -9,6 +9,6 @@ abbrev pub after_all : (ℕ → Option (List ℤ)) → List Step → ℕ → Opt
 after_all active [] = active
 after_all active (step ∷ steps) = after_all (after active step) steps
 
--- the steps behind the first ones, so many, are accepted after these
+-- the steps from this place on are accepted after those before it
 abbrev pub IsAcceptedFrom : List (List ℤ) → List ℤ → List Step → ℕ → Type 0
 IsAcceptedFrom clauses cube steps place = Accepts (after_all (at_start clauses cube) (take place steps)) (drop place steps)

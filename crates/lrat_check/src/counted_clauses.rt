@@ -83,7 +83,7 @@ impl<'a> CountedClauses<'a> {
         }
     }
 
-    /// The same clauses, of which nothing is counted any more.
+    /// The same clauses, without what was counted of them.
     pub fn uncounted(self) -> CountedClauses<'a>
         ensures same { result.clauses ≡ self.entry.clauses }
         ensures counted { (clauses : List (List ℤ)) → HasRightChanges clauses result }

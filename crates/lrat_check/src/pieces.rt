@@ -31,7 +31,7 @@ fn pass_step<'a, F: ClauseList>(
     }
 }
 
-/// The clauses that are active after the first steps, so many of them.
+/// The clauses that are active after this number of steps.
 fn active_after<'a, F: ClauseList>(
     alloc: Global,
     formula: &F,

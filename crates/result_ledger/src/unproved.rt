@@ -117,7 +117,7 @@ fn without_proof_in_pieces<R: Threads + Sync, L: ClauseList + Sync>(
     joined(alloc, formula, slots, size, pieces)
 }
 
-/// The first slot, if its derivation is long and this number of workers finds that it is proved. Where one search has refuted the whole, all others have the same
+/// The first slot, if its derivation is long and this number of workers finds that it is proved. If one search has refuted the whole, all others have the same
 /// derivation.
 fn first_by_all<'a, R: Threads + Sync, L: ClauseList + Sync>(
     alloc: Global,

@@ -69,7 +69,7 @@ enum Part {
 }
 
 impl Balance {
-    /// Nobody needs the value, and nobody gives it.
+    /// Nothing needs the value, and nothing gives it.
     fn even() -> Balance {
         Balance {
             updates: 0,
@@ -108,7 +108,7 @@ impl Balance {
     }
 }
 
-/// The balances of all values that somebody needs or gives. They are made in one walk, since a long trace may have as many values as updates.
+/// The balances of all values that are needed or given. They are made in one walk, since a long trace may have as many values as updates.
 #[derive(Drop)]
 struct Balances<'t> {
     of_values: HashMap<(&'t [u8], u64), Balance>,
