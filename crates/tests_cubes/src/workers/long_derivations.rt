@@ -93,7 +93,7 @@ fn is_found<R: Threads + Sync>(
     Ok(match verdict {
         Verdict::Consistent(_, _) => false,
         Verdict::Inconsistent(count) => count == 1 && refuted,
-        Verdict::Unknown(leaves) => leaves.as_slice() == [0] && !refuted,
+        Verdict::Unknown(leaves) => leaves.as_slice() == [0].as_slice() && !refuted,
     })
 }
 
