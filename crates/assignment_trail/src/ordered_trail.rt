@@ -118,7 +118,7 @@ impl<'a> OrderedTrail<'a> {
     }
 
     /// Returns the reason of a true literal as a clause. A stored clause and that of a choice have the literal too, the others only those that made
-    /// it true: a caller has marked its variable before. A decision has an empty clause with the id 0.
+    /// it true: a caller has marked its variable before. A decision has none (`ReasonClause::none`).
     #[inline(always)]
     pub fn reason(&self, store: &Store, literal: LiteralCode) -> ReasonClause {
         match self.trail.state(literal.variable()).reason {

@@ -32,7 +32,7 @@ pub struct SmallClauses {
     ids: Vec<ClauseId>,
 }
 
-/// Counts one more clause of the literal, two places further on.
+/// Counts one more clause of the literal, at the place two behind its code.
 fn count_one(counts: &mut [u32], literal: LiteralCode) {
     let place = literal.code().wrapping_add(2);
     let count = at(counts, place, 0);
@@ -118,7 +118,7 @@ impl SmallClauses {
         at(self.starts.as_slice(), literal.code(), 0)
     }
 
-    /// Returns the place where it ends: the next one begins there.
+    /// Returns the place where the part of this literal ends, which is where the next one begins.
     #[inline(always)]
     fn end(&self, literal: LiteralCode) -> u32 {
         at(self.starts.as_slice(), literal.code().wrapping_add(1), 0)

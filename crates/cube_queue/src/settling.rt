@@ -9,7 +9,7 @@ use dimacs::{ClauseList, Lit};
 use proof_log::{Answer, CubeSolver};
 use std::alloc::Global;
 
-/// What jobs are settled with, by workers in threads or by one in the caller's.
+/// What jobs are settled with, by workers in threads of their own or by one in the caller's thread.
 #[derive(Clone, Copy)]
 pub(crate) struct CubeSettler<'a, L, S, G> {
     /// Where memory is taken for the search of a cube.

@@ -50,8 +50,9 @@ fn active_after<'a, F: ClauseList>(
     Ok(active.uncounted())
 }
 
-/// Checks the steps from one place up to another, that one left out, after all those before them, which are not checked. Returns whether one of them adds
-/// the empty clause: then all from the first of them on are accepted, and else they are if those behind them are.
+/// Checks the steps from the place `from` up to `to`, which is left out; those before are taken unchecked. Returns whether one of them adds the empty clause.
+/// If so, the steps from `from` on are accepted; if not, they are if those from `to` on are. It refuses if a step of the piece is wrong, which the refusal
+/// names, or if memory runs out.
 pub fn check_piece<F: ClauseList>(
     alloc: Global,
     formula: &F,

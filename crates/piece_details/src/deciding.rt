@@ -17,11 +17,11 @@ use trace_semantics::trace::Trace;
 /// How a trace is decided once more.
 #[derive(Drop)]
 pub struct PieceSearch<'a, S> {
-    /// How a trace is searched of which at most 160 operations are kept.
+    /// The search of a trace of which at most 160 operations are kept.
     pub short: &'a Options,
-    /// How another one is searched after its survey.
+    /// The search of a longer trace, after its survey.
     pub long: &'a Options,
-    /// What surveys that one.
+    /// The surveyor of a longer trace.
     pub surveyor: &'a S,
 }
 

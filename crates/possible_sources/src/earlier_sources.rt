@@ -26,8 +26,8 @@ pub struct EarlierSources {
 }
 
 impl SourceIntervals {
-    /// The bound at a time of which this is the last one, with this last loss. Losses at one end are a list, the last first, so each that is not older than
-    /// the time is undone on the way.
+    /// The bound of an end at the time; now it is `last_bound`, and its last loss `last_loss`. Losses at one end are a list, the last first, so each that is
+    /// not older than the time is undone on the way.
     fn bound_at(&self, last_bound: u32, last_loss: u32, time: Time) -> EarlierBound {
         let mut position = last_bound;
         let mut number = last_loss;

@@ -10,11 +10,13 @@ impl ClauseId {
     /// No clause.
     pub const NONE: ClauseId = ClauseId { number: 0 };
 
+    /// The clause of this number.
     #[inline(always)]
     pub fn new(number: u32) -> ClauseId {
         ClauseId { number }
     }
 
+    /// Its number.
     #[inline(always)]
     pub fn number(self) -> u32 {
         self.number
@@ -32,13 +34,13 @@ impl ClauseId {
         ClauseId::new(self.number.wrapping_sub(1))
     }
 
-    /// The clause that this number of clauses lies behind this one.
+    /// The clause that lies this many clauses behind this one.
     #[inline(always)]
     pub fn ahead(self, clauses: u32) -> ClauseId {
         ClauseId::new(self.number.wrapping_add(clauses))
     }
 
-    /// The number of clauses that this one lies behind the first one.
+    /// The number of clauses by which this one lies behind the first one.
     #[inline(always)]
     pub fn since(self, first: ClauseId) -> u32 {
         self.number.wrapping_sub(first.number)

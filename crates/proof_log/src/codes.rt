@@ -8,7 +8,8 @@ pub struct Variable {
     number: u32,
 }
 
-/// A literal as a place in tables: twice its variable, plus one if it is negative. Only this type takes a code apart.
+/// A literal as a place in tables: twice its variable, plus one if it is negative. Only this type takes a code apart, but for `order_sets` and
+/// `source_matching`, which have plain numbers.
 #[derive(Clone, Copy, PartialEq, Eq)]
 pub struct LiteralCode {
     code: u32,
@@ -26,11 +27,13 @@ impl Variable {
     /// No variable.
     pub const NONE: Variable = Variable { number: 0 };
 
+    /// The variable of this number.
     #[inline(always)]
     pub fn new(number: u32) -> Variable {
         Variable { number }
     }
 
+    /// Its number.
     #[inline(always)]
     pub fn number(self) -> u32 {
         self.number
@@ -56,6 +59,7 @@ impl Variable {
 }
 
 impl LiteralCode {
+    /// The literal of this code.
     #[inline(always)]
     pub fn new(code: u32) -> LiteralCode {
         LiteralCode { code }
@@ -77,21 +81,25 @@ impl LiteralCode {
         variables.wrapping_mul(2).wrapping_add(2)
     }
 
+    /// Its code, a place in tables.
     #[inline(always)]
     pub fn code(self) -> u32 {
         self.code
     }
 
+    /// Its variable.
     #[inline(always)]
     pub fn variable(self) -> Variable {
         Variable::new(self.code >> 1)
     }
 
+    /// Its negation.
     #[inline(always)]
     pub fn negated(self) -> LiteralCode {
         LiteralCode::new(self.code ^ 1)
     }
 
+    /// Returns whether it says that its variable is true.
     #[inline(always)]
     pub fn is_positive(self) -> bool {
         self.code & 1 == 0

@@ -158,7 +158,7 @@ struct NamedClauses<'d, L> {
     list: &'d L,
     /// The literals of the cube, which are clauses after those of the list.
     cube: &'d [Lit],
-    /// The steps before this one, with the clauses that they add.
+    /// The steps before the one whose hints are followed, with the clauses that they add.
     earlier: &'d [Step],
 }
 

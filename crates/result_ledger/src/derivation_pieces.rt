@@ -17,7 +17,7 @@ use std::thread::{Threads, map_indices};
 /// second, of which several would save little: if a step is RAT, each piece first counts the literals of the formula.
 const LONG_CHECK: usize = 100_000;
 
-/// A piece of a derivation whose steps are right, one after the other.
+/// A piece of a derivation. Those of its steps that were looked at are right.
 #[derive(Clone, Copy)]
 pub(crate) struct PassedPiece {
     /// The place of its first step.

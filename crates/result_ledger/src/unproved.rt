@@ -12,7 +12,7 @@ use std::alloc::{AllocError, Global};
 use std::thread::{Threads, map_indices};
 
 /// The leaves that are not proved, rising, of those from the one number on and before the other. A derivation that was accepted for one
-/// leaf is not checked again for another that it serves; nor is that of a slot that is proved already.
+/// leaf is not checked again for another that it serves; nor is one that `proved_before` has and that serves the leaf.
 fn without_proof_between<'a, L: ClauseList>(
     alloc: Global,
     formula: &L,

@@ -69,6 +69,7 @@ pub struct Search<'a> {
     // When to restart and to drop clauses.
     pub(crate) conflicts: u32,
     pub(crate) restarts: Restarts,
+    /// When clauses are dropped next.
     pub(crate) reductions: Reductions,
 }
 

@@ -179,7 +179,7 @@ const MOST_STEPS: u64 = 1_000_000;
 /// From this number of steps on a derivation for the whole stands once, in a tree of one leaf. A shorter one is copied to each leaf of the tree that was asked for.
 const LONG_STEPS: u64 = 10_000;
 
-/// Gives the refutation of the whole as one cube, if the solver has one. As many workers check it as search.
+/// Gives the refutation of the whole as one cube, if the solver has one. All workers of the options check it.
 fn refute_as_one_cube<R: Threads + Wait + Sync, S: CubeSolver + Sync, G: Gate + Sync>(
     run: &SearchRun<'_, R, G>,
     reduced: &Reduced,

@@ -61,7 +61,7 @@ impl<'t> CountedValue<'t> {
 
 /// What an operation or the trace adds to a balance.
 #[derive(Clone, Copy)]
-enum Part {
+enum BalanceEntry {
     Update,
     Final,
     Initial,
@@ -79,14 +79,14 @@ impl Balance {
         }
     }
 
-    /// The balance with this part.
-    fn with(self, part: Part) -> Balance {
+    /// The balance with this entry.
+    fn with(self, entry: BalanceEntry) -> Balance {
         let mut balance = self;
-        match part {
-            Part::Update => balance.updates = balance.updates.saturating_add(1),
-            Part::Final => balance.finals = 1,
-            Part::Initial => balance.initials = 1,
-            Part::Writer => balance.writers = balance.writers.saturating_add(1),
+        match entry {
+            BalanceEntry::Update => balance.updates = balance.updates.saturating_add(1),
+            BalanceEntry::Final => balance.finals = 1,
+            BalanceEntry::Initial => balance.initials = 1,
+            BalanceEntry::Writer => balance.writers = balance.writers.saturating_add(1),
         }
         balance
     }
@@ -121,10 +121,10 @@ impl<'t> Balances<'t> {
             of_values: HashMap::new(alloc),
         };
         for entry in trace.initial() {
-            balances.add(entry.0.as_bytes(), entry.1, Part::Initial)?;
+            balances.add(entry.0.as_bytes(), entry.1, BalanceEntry::Initial)?;
         }
         for entry in trace.final_values() {
-            balances.add(entry.0.as_bytes(), entry.1, Part::Final)?;
+            balances.add(entry.0.as_bytes(), entry.1, BalanceEntry::Final)?;
         }
         for process in trace.processes() {
             for op in process.operations.as_slice() {
@@ -142,8 +142,13 @@ impl<'t> Balances<'t> {
         }
     }
 
-    fn add(&mut self, location: &'t [u8], value: u64, part: Part) -> Result<(), AllocError> {
-        let balance = self.balance(location, value).with(part);
+    fn add(
+        &mut self,
+        location: &'t [u8],
+        value: u64,
+        entry: BalanceEntry,
+    ) -> Result<(), AllocError> {
+        let balance = self.balance(location, value).with(entry);
         self.of_values.insert((location, value), balance)?;
         Ok(())
     }
@@ -151,10 +156,10 @@ impl<'t> Balances<'t> {
     /// Adds what the operation needs, if it is an update, and what it gives.
     fn add_operation(&mut self, op: &'t Op) -> Result<(), AllocError> {
         if let Some(read) = CountedValue::of_update(op) {
-            self.add(read.location, read.value, Part::Update)?;
+            self.add(read.location, read.value, BalanceEntry::Update)?;
         }
         if let Some(left) = op.written_value() {
-            self.add(op.location().as_bytes(), left, Part::Writer)?;
+            self.add(op.location().as_bytes(), left, BalanceEntry::Writer)?;
         }
         Ok(())
     }

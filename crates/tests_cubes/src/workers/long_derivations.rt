@@ -46,8 +46,8 @@ fn addition(alloc: Global, id: u64, literals: &[Lit], hints: &[i64]) -> Result<S
     })
 }
 
-/// The step at this place. It adds the first variable, which follows from the first two clauses, but of which a wrong one has the first alone. At the place
-/// of the empty clause it adds that.
+/// The step at this place. It adds the first variable by the first two clauses; a wrong step cites the first alone. At the place of the empty clause it
+/// adds that.
 fn step_at(alloc: Global, place: u64, wrong: u64, empty: u64) -> Result<Step, AllocError> {
     let id = place.saturating_add(5);
     let first = Lit::new(1).unwrap_or_default();
@@ -78,7 +78,7 @@ fn ledger_with(rt: &impl Abort, alloc: Global, derivation: Derivation) -> Result
     Ok(ledger)
 }
 
-/// Returns whether this number of workers finds that the one leaf is refuted, or, if not, that it is open.
+/// Returns whether this number of workers finds the one leaf refuted if it is, and open if not.
 fn is_found<R: Threads + Sync>(
     rt: &R,
     alloc: Global,
