@@ -4,15 +4,15 @@
 pub const FIRST_REDUCTION: u32 = 500;
 
 /// Increment of the interval between two reductions, in conflicts.
-const GROWTH: u32 = 50;
+const REDUCTION_GROWTH: u32 = 50;
 
 /// Conflicts before the first reduction of a search that goes on in rounds. It has the clauses of three others beside its own, and each takes time at
 /// every literal that it watches: with 500 and 50, as a search by itself has, the four took 286 thousand conflicts on 24 traces and looked at 104 million
 /// clauses, and with 200 and 20 they took 248 thousand and looked at 57 million.
-const ROUNDS_FIRST: u32 = 200;
+const ROUNDS_FIRST_REDUCTION: u32 = 200;
 
 /// The increment there.
-const ROUNDS_GROWTH: u32 = 20;
+const ROUNDS_REDUCTION_GROWTH: u32 = 20;
 
 /// Counts conflicts from one reduction of the clause database to the next.
 #[derive(Clone, Copy)]
@@ -30,7 +30,7 @@ impl Reductions {
     pub fn after(first: u32) -> Reductions {
         Reductions {
             gap: first,
-            growth: GROWTH,
+            growth: REDUCTION_GROWTH,
             left: first,
         }
     }
@@ -38,9 +38,9 @@ impl Reductions {
     /// Those of a search that goes on in rounds.
     pub fn in_rounds() -> Reductions {
         Reductions {
-            gap: ROUNDS_FIRST,
-            growth: ROUNDS_GROWTH,
-            left: ROUNDS_FIRST,
+            gap: ROUNDS_FIRST_REDUCTION,
+            growth: ROUNDS_REDUCTION_GROWTH,
+            left: ROUNDS_FIRST_REDUCTION,
         }
     }
 
