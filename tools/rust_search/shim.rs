@@ -401,11 +401,11 @@ static LEARNED: AtomicU64 = AtomicU64::new(0);
 static TRIMMED: AtomicU64 = AtomicU64::new(0);
 
 /// Notes which beam has found a schedule.
-pub fn note_beam(number: u32) {
+pub fn note_search(number: u32) {
     BEAM.store(u64::from(number), Ordering::SeqCst);
 }
 
-pub fn noted_beam() -> u64 {
+pub fn noted_search() -> u64 {
     BEAM.load(Ordering::SeqCst)
 }
 

@@ -2,19 +2,15 @@
 #![allow(warnings)]
 
 mod assignment_trail;
-mod beam_model;
-mod beam_search;
 mod clause_blocks;
 mod clause_database;
 mod clause_meaning;
-mod closed_rows;
 mod counting_proofs;
 mod dimacs;
 mod guide;
 mod lrat_check;
 mod numbered_log;
 mod order_sets;
-mod possible_sources;
 mod proof_log;
 mod reducer;
 mod restriction;
@@ -26,6 +22,8 @@ mod shim;
 mod short_lists;
 mod solver;
 mod source_matching;
+mod state_model;
+mod state_search;
 mod text_lines;
 mod total_tables;
 mod trace_log;
@@ -33,7 +31,6 @@ mod trace_semantics;
 mod trace_text;
 mod var_layout;
 
-use beam_model::model_by_beams;
 use clause_blocks::trace_clauses::TraceClauses;
 use dimacs::{Assignment, ClauseList, Lit};
 use guide::{guide_to_order, reads_from_table};
@@ -48,6 +45,7 @@ use schedule_text::schedule_writer::write_schedule;
 use seat_rounds::seats::Seats;
 use shim::{Global, setting};
 use solver::{PreparedFormula, solve_cube};
+use state_model::model_by_states;
 use std::collections::HashMap;
 use std::env;
 use std::fmt;
@@ -258,10 +256,10 @@ fn search_before_cubes(reduced: &Reduced, clauses: &TraceClauses, prepared: &mut
         return;
     };
     report.handed_on = first.log.additions();
-    let model = model_by_beams(Global, reduced.kept(), clauses).expect("memory");
-    report.end("beams");
+    let model = model_by_states(Global, reduced.kept(), clauses).expect("memory");
+    report.end("states");
     if let Some(model) = model {
-        report.found_by = format!("beam {}", shim::noted_beam());
+        report.found_by = format!("states {}", shim::noted_search());
         prepared.know(splits.len(), Answer::Model(model));
         return;
     }

@@ -1,6 +1,5 @@
 //! Formulas, models, derivations, the variables of a trace, and the guide of the search.
 
-mod beam_models;
 mod clause_lists;
 mod decodings;
 mod derivations;
@@ -10,3 +9,4 @@ mod layouts;
 mod matching_hints;
 mod said_clauses;
 mod solver_texts;
+mod state_models;

@@ -9,6 +9,7 @@ mod failing_devices;
 mod hints;
 mod lying_surveyors;
 mod refused_memory;
+mod states;
 mod surveys;
 mod traces;
 mod two_findings;

@@ -17,7 +17,6 @@ use crate::decision::Decision;
 use crate::guide::{guide_to_order, reads_from_table};
 use crate::refutation::Refutation;
 use crate::rounds::search_in_rounds;
-use beam_model::model_by_beams;
 use clause_blocks::trace_clauses::TraceClauses;
 use cube_jobs::{Gate, Options, SearchFault, SearchRun};
 use cube_tree::grow;
@@ -29,6 +28,7 @@ use result_ledger::{Ledger, Verdict, inconsistent_has_no_model, unknown_holds_al
 use schedule_decode::decode::schedule_of;
 use seat_rounds::search_by_seats;
 use solver::{Answer, CubeSolver, PreparedFormula, ReadsFromTable, SourceCounter};
+use state_model::model_by_states;
 use std::alloc::{AllocError, Global};
 use std::sync::Wait;
 use std::thread::Threads;
@@ -121,8 +121,8 @@ struct KeptTrace<'a> {
     clauses: &'a TraceClauses,
 }
 
-/// Searches the whole formula before its cubes: what is found there answers for all of them. If one search leaves it open, beams look for a schedule,
-/// and if they find none, four searches go on with that one.
+/// Searches the whole formula before its cubes: what is found there answers for all of them. If one search leaves it open, searches of its
+/// states look for a schedule, and if they find none, four searches go on with that one.
 fn search_before_cubes<R: Threads + Wait + Sync, G: Gate>(
     alloc: Global,
     rt: &R,
@@ -141,7 +141,7 @@ fn search_before_cubes<R: Threads + Wait + Sync, G: Gate>(
     let Some(first) = prepared.search_whole(alloc, splits.as_slice(), budget)? else {
         return Ok(());
     };
-    if let Some(model) = model_by_beams(alloc, kept.trace, clauses)? {
+    if let Some(model) = model_by_states(alloc, kept.trace, clauses)? {
         prepared.know(splits.len(), Answer::Model(model));
         return Ok(());
     }

@@ -62,7 +62,7 @@ fn drawn_operation(random: &mut DrawnNumbers, memory: &mut Vec<u64>) -> Operatio
 }
 
 /// The log of a run of this many operations, and of its final values.
-fn drawn_log(alloc: Global, seed: u64, count: u32) -> Result<NumberedLog, AllocError> {
+pub fn drawn_log(alloc: Global, seed: u64, count: u32) -> Result<NumberedLog, AllocError> {
     let mut random = DrawnNumbers::new(seed);
     let mut memory = vec![in alloc; 0; LOCATIONS as usize]?;
     let mut run = Vec::new(alloc);
@@ -87,7 +87,7 @@ fn drawn_log(alloc: Global, seed: u64, count: u32) -> Result<NumberedLog, AllocE
 }
 
 /// Returns whether the operations are all of the log, each reads what its location holds, and the final values are as they have to be.
-fn is_legal(
+pub fn is_legal(
     alloc: Global,
     log: &NumberedLog,
     schedule: &[OperationId],

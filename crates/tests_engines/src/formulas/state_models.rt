@@ -1,10 +1,10 @@
-//! Models along schedules that beams find.
+//! Models along schedules that searches of states find.
 
 use crate::expectations::ample;
 use crate::traces::{HAND_OFF, STORE_BUFFERING, reduced_of};
-use beam_model::model_by_beams;
 use clause_blocks::trace_clauses::TraceClauses;
 use dimacs::{Assignment, ClauseList};
+use state_model::model_by_states;
 use std::alloc::Global;
 use std::process::Abort;
 
@@ -15,17 +15,17 @@ const UPDATES_IN_A_RING: &str =
 /// It has a schedule, and says of two operations which stands first.
 const WITH_BEFORE: &str = "vsc 2\nproc P\nW x 1\nproc Q\nR x 1\nW x 2\nbefore P 1 Q 2\n";
 
-/// The model that beams find of the trace, if it makes all clauses true.
+/// The model that searches of states find of the trace, if it makes all clauses true.
 fn model_of(rt: &impl Abort, alloc: Global, text: &str) -> Option<Assignment> {
     let reduced = reduced_of(rt, alloc, text);
     let clauses = ample(rt, TraceClauses::of(alloc, &reduced));
-    let model = ample(rt, model_by_beams(alloc, reduced.kept(), &clauses))?;
+    let model = ample(rt, model_by_states(alloc, reduced.kept(), &clauses))?;
     assert!(rt; clauses.eval(&model).is_ok());
     Some(model)
 }
 
 #[test]
-fn beams_find_a_model_where_there_is_a_schedule(rt: HostRuntime) {
+fn a_model_is_found_where_there_is_a_schedule(rt: HostRuntime) {
     let Some(model) = model_of(&rt, rt.alloc(), HAND_OFF) else {
         panic!(rt; "the write comes first, and then the read");
     };
@@ -35,6 +35,6 @@ fn beams_find_a_model_where_there_is_a_schedule(rt: HostRuntime) {
 }
 
 #[test]
-fn beams_leave_known_order_to_others(rt: HostRuntime) {
+fn known_order_is_left_to_others(rt: HostRuntime) {
     assert!(rt; model_of(&rt, rt.alloc(), WITH_BEFORE).is_none());
 }

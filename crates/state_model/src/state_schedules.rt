@@ -1,0 +1,52 @@
+//! Searches of states, one after the other, until one has found a schedule of the whole trace.
+
+use crate::model::model_along;
+use clause_blocks::trace_clauses::TraceClauses;
+use dimacs::Assignment;
+use numbered_log::{Budget, NumberedLog, OperationId};
+use state_search::{Breadth, schedule_by_states};
+use std::alloc::{AllocError, Global};
+use trace_log::log_of;
+use trace_semantics::trace::Trace;
+
+/// The number of searches.
+const SEARCHES: u32 = 3;
+
+/// The breadth of the search of this number. Of 73 hard traces with a schedule the first scheduled 58, the second five more, and the third six more.
+fn breadth(number: u32) -> Breadth {
+    Breadth {
+        states: if number == 0 { 300 } else { 1000 },
+        spare_weight: if number == 2 { 10 } else { 200 },
+    }
+}
+
+/// The most looks of a search, some quarter of a second. The searches of 160 operations of eight processes take a fifth of them.
+const LOOKS: u64 = 64_000_000;
+
+/// The schedule of the first search that finds one.
+fn schedule_of(alloc: Global, log: &NumberedLog) -> Result<Option<Vec<OperationId>>, AllocError> {
+    for number in 0..SEARCHES {
+        let found = schedule_by_states(alloc, log, breadth(number), Budget::new(LOOKS))?;
+        if found.is_some() {
+            return Ok(found);
+        }
+    }
+    Ok(None)
+}
+
+/// A model of these clauses, which are those of the trace, if a search of states schedules it. Such a search heeds program order alone,
+/// so a trace that says of other operations which stands first is left to others. So is one with a value of a known origin.
+pub fn model_by_states(
+    alloc: Global,
+    trace: &Trace,
+    clauses: &TraceClauses,
+) -> Result<Option<Assignment>, AllocError> {
+    if !clauses.layout().before().is_empty() {
+        return Ok(None);
+    }
+    let log = log_of(alloc, trace)?;
+    match schedule_of(alloc, &log)? {
+        Some(schedule) => Ok(Some(model_along(alloc, clauses, schedule.as_slice())?)),
+        None => Ok(None),
+    }
+}
