@@ -12,21 +12,29 @@ use trace_semantics::trace::Trace;
 /// The number of searches.
 const SEARCHES: u32 = 3;
 
-/// The breadth of the search of this number. Of 73 hard traces with a schedule the first scheduled 58, the second five more, and the third six more.
-fn breadth(number: u32) -> Breadth {
+/// The breadth of the search of this number. More processes have more that can come next, so fewer states make as much work. Of 73 hard traces with a schedule
+/// the first search scheduled 58, the second five more, and the third six more, where a layer had 300 and 1,000 states, as with eight processes.
+fn breadth(number: u32, processes: u32) -> Breadth {
+    let shared: u32 = if number == 0 { 2_400 } else { 8_000 };
+    let states = if processes == 0 {
+        1
+    } else {
+        shared / processes
+    };
     Breadth {
-        states: if number == 0 { 300 } else { 1000 },
+        states,
         spare_weight: if number == 2 { 10 } else { 200 },
     }
 }
 
-/// The most looks of a search, some quarter of a second. The searches of 160 operations of eight processes take a fifth of them.
-const LOOKS: u64 = 64_000_000;
+/// The most looks of a search, an eighth of a second. One of 160 operations takes some 12 million.
+const LOOKS: u64 = 32_000_000;
 
 /// The schedule of the first search that finds one.
 fn schedule_of(alloc: Global, log: &NumberedLog) -> Result<Option<Vec<OperationId>>, AllocError> {
     for number in 0..SEARCHES {
-        let found = schedule_by_states(alloc, log, breadth(number), Budget::new(LOOKS))?;
+        let breadth = breadth(number, log.processes());
+        let found = schedule_by_states(alloc, log, breadth, Budget::new(LOOKS))?;
         if found.is_some() {
             return Ok(found);
         }
