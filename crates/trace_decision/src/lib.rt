@@ -17,4 +17,4 @@ pub use certifying::write_certificate;
 pub use deciding::decide;
 pub use decision::Decision;
 pub use refutation::Refutation;
-pub use reporting::report_of;
+pub use reporting::{line_with_names, report_of};

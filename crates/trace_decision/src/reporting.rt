@@ -2,6 +2,7 @@
 ghost use Rattle.std.specs.Prelude.{◌≡◌, ◌++◌, IfOk, OnOk};
 ghost use Rattle.std.specs.List.{flat_map};
 ghost use Rattle.dimacs.specs.CnfText.{literal_text};
+ghost use Rattle.schedule_text.specs.ScheduleWritten.{canonical_schedule};
 ghost use Rattle.trace_decision.specs.Decision.{open_line, unknown_line, report};
 ghost use Rattle.trace_decision.specs.declared.decision.Decision.TheVariants.{Consistent, Inconsistent, Unknown};
 
@@ -42,36 +43,39 @@ fn push_open_lines(alloc: Global, text: &mut Vec<u8>, cubes: &[Cube]) -> Result<
     Ok(())
 }
 
+/// The line of a report, and behind it the names of a schedule, one a line.
+pub fn line_with_names(alloc: Global, line: &str, names: &Schedule) -> Result<Vec<u8>, AllocError>
+    ensures { IfOk result (λ text. text.items ≡ line.now ++ canonical_schedule names.now) }
+{
+    let mut text = Vec::new(alloc);
+    text.extend_from_slice(line.as_bytes())?;
+    let names = write_schedule(alloc, names)?;
+    text.extend_from_slice(names.as_slice())?;
+    Ok(text)
+}
+
 /// The report of a schedule.
 fn consistent_report(alloc: Global, schedule: &Schedule) -> Result<Vec<u8>, AllocError>
     ensures { IfOk result (λ text. text.items ≡ report (Consistent schedule.now)) }
 {
-    let mut text = Vec::new(alloc);
-    text.extend_from_slice(b"CONSISTENT\n")?;
-    let names = write_schedule(alloc, schedule)?;
-    text.extend_from_slice(names.as_slice())?;
-    Ok(text)
+    line_with_names(alloc, "CONSISTENT\n", schedule)
 }
 
 /// The report of a trace that has no legal schedule, which says how many cubes were refuted: the leaves of the tree.
 fn inconsistent_report(alloc: Global, refutation: &Refutation) -> Result<Vec<u8>, AllocError>
     ensures { IfOk result (λ text. text.items ≡ report (Inconsistent refutation.now)) }
 {
-    let mut text = Vec::new(alloc);
     let count = refutation.tree.leaves();
     let line = format!(in alloc; "INCONSISTENT cubes={count}\n")?;
-    text.extend_from_slice(line.as_bytes())?;
-    Ok(text)
+    Ok(line.into_bytes())
 }
 
 /// The line that says how many cubes are open.
 fn counting_line(alloc: Global, count: usize) -> Result<Vec<u8>, AllocError>
     ensures { IfOk result (λ text. text.items ≡ unknown_line count) }
 {
-    let mut text = Vec::new(alloc);
     let line = format!(in alloc; "UNKNOWN open={count}\n")?;
-    text.extend_from_slice(line.as_bytes())?;
-    Ok(text)
+    Ok(line.into_bytes())
 }
 
 /// The report of open cubes.
