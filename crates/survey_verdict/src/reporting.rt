@@ -7,46 +7,36 @@ use part_text::part_writer::write_part;
 use schedule_text::schedule_writer::write_schedule;
 use std::alloc::{AllocError, Global};
 use surveyor::Extent;
-use trace_decision::report_of;
+use trace_decision::{line_with_names, report_of};
 
 /// The report of a core: how many operations it has, of how many cubes its refutation is, and the names.
 fn report_of_core(alloc: Global, core: &RefutedCore) -> Result<Vec<u8>, AllocError>
     ensures { IfOk result (λ text. text.items ≡ core_report core.now) }
 {
-    let mut text = Vec::new(alloc);
     let operations = core.names.names().len();
     let cubes = core.refutation.tree.leaves();
     let line = format!(in alloc; "INCONSISTENT operations={operations} cubes={cubes}\n")?;
-    text.extend_from_slice(line.as_bytes())?;
-    let names = write_schedule(alloc, &core.names)?;
-    text.extend_from_slice(names.as_slice())?;
-    Ok(text)
+    line_with_names(alloc, line.as_str(), &core.names)
 }
 
 /// The report of a certificate of reasons: how many operations its lines name, how many clauses they make, and the names.
 fn report_of_reasons(alloc: Global, reasons: &ReasonCertificate) -> Result<Vec<u8>, AllocError>
     ensures { IfOk result (λ text. text.items ≡ reasons_report reasons.now) }
 {
-    let mut text = Vec::new(alloc);
     let operations = reasons.operations;
     let clauses = reasons.clauses;
     let line = format!(in alloc; "INCONSISTENT operations={operations} reasons={clauses}\n")?;
-    text.extend_from_slice(line.as_bytes())?;
-    let names = write_schedule(alloc, &reasons.names)?;
-    text.extend_from_slice(names.as_slice())?;
-    Ok(text)
+    line_with_names(alloc, line.as_str(), &reasons.names)
 }
 
 /// The line that says how far the survey came.
 fn line_of_extent(alloc: Global, extent: &Extent) -> Result<Vec<u8>, AllocError>
     ensures { IfOk result (λ text. text.items ≡ extent_line extent.now) }
 {
-    let mut text = Vec::new(alloc);
     let placed = extent.placed;
     let undecided = extent.undecided;
     let line = format!(in alloc; "UNKNOWN placed={placed} undecided={undecided}\n")?;
-    text.extend_from_slice(line.as_bytes())?;
-    Ok(text)
+    Ok(line.into_bytes())
 }
 
 /// The report of what is decided.
