@@ -19,18 +19,6 @@ const LOCATIONS: u32 = 3;
 
 const VALUES: u64 = 3;
 
-/// An operation of no process, and on the first location.
-const NO_OPERATION: Operation = Operation {
-    process: ProcessId::FIRST,
-    place: ProcessPlace::START,
-    location: LocationId::FIRST,
-    reads: false,
-    writes: false,
-    needed: 0,
-    left: 0,
-    origin: NumberedOrigin::Any,
-};
-
 /// A beam of this width.
 fn beam_of(width: u32) -> Beam {
     Beam {
@@ -52,12 +40,13 @@ fn drawn_operation(random: &mut DrawnNumbers, memory: &mut Vec<u64>) -> Operatio
     }
     Operation {
         process,
+        place: ProcessPlace::START,
         location,
         reads: kind != 3,
         writes: kind > 1,
         needed: held,
         left,
-        ..NO_OPERATION
+        origin: NumberedOrigin::Any,
     }
 }
 
@@ -71,10 +60,9 @@ pub fn drawn_log(alloc: Global, seed: u64, count: u32) -> Result<NumberedLog, Al
     }
     let mut log = NumberedLog::new(alloc, LOCATIONS)?;
     for process in ProcessId::first(PROCESSES) {
-        for place in 0..count {
-            let operation = at(run.as_slice(), place, NO_OPERATION);
+        for operation in &run {
             if operation.process == process {
-                log.add_operation(operation)?;
+                log.add_operation(*operation)?;
             }
         }
         log.end_process()?;
