@@ -10,6 +10,12 @@ ghost use Rattle.command_line.specs.CommandLine.{flag_rule, optional_path, pictu
 use clap::{Arg, ArgAction, ArgMatches};
 use std::alloc::{AllocError, Global};
 
+const TRACE: &str = "A file with a trace: what each process wrote and read";
+
+const PROGRESS: &str = "Says on standard error how far the search is";
+
+const PICTURE: &str = "Draws the answer into FILE, as SVG for a browser";
+
 /// An argument that is the path of a file. It stands at its place and has to be given.
 pub fn path_argument<'a>(alloc: Global, id: &'a str, value_name: &'a str, help: &'a str) -> Arg<'a>
     ensures rule { rule_of result ≡ required_path id.entry.now }
@@ -61,12 +67,7 @@ pub fn trace_argument<'a>(alloc: Global) -> Arg<'a>
     ensures rule { rule_of result ≡ required_path (codes "trace") }
     ensures local { result.global ≡ false }
 {
-    path_argument(
-        alloc,
-        "trace",
-        "TRACE",
-        "A file with a trace: what each process wrote and read",
-    )
+    path_argument(alloc, "trace", "TRACE", TRACE)
 }
 
 /// `--progress`.
@@ -74,12 +75,7 @@ pub fn progress_argument<'a>(alloc: Global) -> Arg<'a>
     ensures rule { rule_of result ≡ progress_rule }
     ensures local { result.global ≡ false }
 {
-    flag_argument(
-        alloc,
-        "progress",
-        "progress",
-        "Says on standard error how far the search is",
-    )
+    flag_argument(alloc, "progress", "progress", PROGRESS)
 }
 
 /// `--picture FILE`.
@@ -87,12 +83,7 @@ pub fn picture_argument<'a>(alloc: Global) -> Arg<'a>
     ensures rule { rule_of result ≡ picture_rule }
     ensures local { result.global ≡ false }
 {
-    optional_path_argument(
-        alloc,
-        "picture",
-        "FILE",
-        "Draws the answer into FILE, as SVG for a browser",
-    )
+    optional_path_argument(alloc, "picture", "FILE", PICTURE)
 }
 
 /// The text of an argument, where one was given.

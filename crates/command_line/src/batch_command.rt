@@ -2,23 +2,22 @@
 
 ghost use Rattle.std.specs.Prelude.{◌≡◌, IfErr, IfOk, Some, codes, false, option_map};
 ghost use Rattle.clap.specs.Values.{bool_text};
-ghost use Rattle.clap.specs.Words.{app_of, first_value, found_of, rule_of};
+ghost use Rattle.clap.specs.Words.{app_of, first_value, found_of};
 ghost use Rattle.clap.specs.declared.builder.command.Command.TheViews.{out-Command};
 ghost use Rattle.clap.specs.declared.error.kind.ErrorKind.TheVariants.{OutOfMemory};
 ghost use Rattle.command_line.specs.Arguments.{HasFlag, HasNumber, HasWorkers, all_texts};
-ghost use Rattle.command_line.specs.CommandLine.{AsksWith, batch_app, json_rule, keep_rule, required_paths, schedules_rule};
+ghost use Rattle.command_line.specs.CommandLine.{AsksWith, batch_app};
 
 use crate::arguments::{
     flag_argument, flag_of, optional_path_argument, optional_text_of, paths_argument, texts_of,
 };
 use crate::building::{CommandHelp, command_of_two, with_two};
-use crate::explains::explains_of;
-use crate::line::{BatchNumbers, BatchOutput, CommandLine, Line};
+use crate::line::{BatchNumbers, BatchOutput, CommandLine, Line, command_line_of};
 use crate::line_fault::LineFault;
 use crate::numbers::{
     budget_argument, budget_of, split_argument, split_of, workers_argument, workers_of,
 };
-use clap::{Arg, ArgMatches, Command};
+use clap::{ArgMatches, Command};
 use std::alloc::{AllocError, Global};
 
 const ABOUT: &str = "Decides many traces of one file or more, a line for each";
@@ -50,65 +49,23 @@ Exit status, of which the first of 4, 1, 2, 3 counts:
     3  an answer is UNKNOWN
     4  a file or a standard stream failed";
 
-// `FILE..`.
-fn files_argument<'a>(alloc: Global) -> Arg<'a>
-    ensures rule { rule_of result ≡ required_paths (codes "traces") }
-    ensures local { result.global ≡ false }
-{
-    paths_argument(
-        alloc,
-        "traces",
-        "FILE",
-        "Files with traces, one after the other",
-    )
-}
+const FILES: &str = "Files with traces, one after the other";
 
-// `--json`.
-fn json_argument<'a>(alloc: Global) -> Arg<'a>
-    ensures rule { rule_of result ≡ json_rule }
-    ensures local { result.global ≡ false }
-{
-    flag_argument(
-        alloc,
-        "json",
-        "json",
-        "Writes each line as an object of JSON",
-    )
-}
+const WORKERS: &str = "How many threads decide traces, 1 to 8";
 
-// `--schedules`.
-fn schedules_argument<'a>(alloc: Global) -> Arg<'a>
-    ensures rule { rule_of result ≡ schedules_rule }
-    ensures local { result.global ≡ false }
-{
-    flag_argument(
-        alloc,
-        "schedules",
-        "schedules",
-        "Puts the schedule of each CONSISTENT into its object",
-    )
-}
+const JSON: &str = "Writes each line as an object of JSON";
 
-// `--keep FOLDER`.
-fn keep_argument<'a>(alloc: Global) -> Arg<'a>
-    ensures rule { rule_of result ≡ keep_rule }
-    ensures local { result.global ≡ false }
-{
-    optional_path_argument(
-        alloc,
-        "keep",
-        "FOLDER",
-        "Keeps what shows an INCONSISTENT in FOLDER, new or empty",
-    )
-}
+const SCHEDULES: &str = "Puts the schedule of each CONSISTENT into its object";
+
+const KEEP: &str = "Keeps what shows an INCONSISTENT in FOLDER, new or empty";
 
 /// The command, as `clap` takes it.
 pub fn new_batch_command<'a>(alloc: Global) -> Result<Command<'a>, AllocError>
     ensures app { IfOk result (λ c. app_of c ≡ batch_app) }
     ensures local { IfOk result (λ c. (out-Command c).has_globals ≡ false) }
 {
-    let traces = files_argument(alloc);
-    let workers = workers_argument(alloc, "How many threads decide traces, 1 to 8");
+    let traces = paths_argument(alloc, "traces", "FILE", FILES);
+    let workers = workers_argument(alloc, WORKERS);
     let help = CommandHelp {
         name: "batch",
         about: ABOUT,
@@ -118,10 +75,10 @@ pub fn new_batch_command<'a>(alloc: Global) -> Result<Command<'a>, AllocError>
     let split = split_argument(alloc);
     let budget = budget_argument(alloc);
     let command = with_two(command, split, budget)?;
-    let json = json_argument(alloc);
-    let schedules = schedules_argument(alloc);
+    let json = flag_argument(alloc, "json", "json", JSON);
+    let schedules = flag_argument(alloc, "schedules", "schedules", SCHEDULES);
     let command = with_two(command, json, schedules)?;
-    let keep = keep_argument(alloc);
+    let keep = optional_path_argument(alloc, "keep", "FOLDER", KEEP);
     command.arg(keep)
 }
 
@@ -162,9 +119,5 @@ pub fn batch_line<'a>(alloc: Global, matches: &ArgMatches<'a>) -> Result<Command
         numbers,
         output: output_of(matches),
     };
-    Ok(CommandLine {
-        line,
-        explains: explains_of(matches),
-        picture: optional_text_of(matches, "picture"),
-    })
+    Ok(command_line_of(matches, line))
 }

@@ -6,10 +6,9 @@ ghost use Rattle.clap.specs.declared.builder.command.Command.TheViews.{out-Comma
 ghost use Rattle.command_line.specs.CommandLine.{AsksWith, cnf_app};
 ghost use Rattle.command_line.specs.Arguments.{HasFlag, HasWorkers, all_texts};
 
-use crate::arguments::{optional_text_of, text_of, trace_argument};
+use crate::arguments::{text_of, trace_argument};
 use crate::building::{CommandHelp, command_of_two};
-use crate::explains::explains_of;
-use crate::line::{CommandLine, Line};
+use crate::line::{CommandLine, Line, command_line_of};
 use crate::numbers::{workers_argument, workers_of};
 use clap::{ArgMatches, Command};
 use std::alloc::{AllocError, Global};
@@ -48,9 +47,6 @@ pub fn new_cnf_command<'a>(alloc: Global) -> Result<Command<'a>, AllocError>
 }
 
 /// Gives what the matches of the command ask for.
-///
-/// `cnf` has no `--picture`, so none is found. It is looked up nevertheless: the contract, which is the same for each command, says that what was given
-/// for it is handed on.
 pub fn cnf_line<'a>(matches: &ArgMatches<'a>) -> CommandLine<'a>
     requires trace { IsSome (first_value (found_of matches.now) (codes "trace")) }
     requires workers { HasWorkers (found_of matches.now) }
@@ -62,9 +58,5 @@ pub fn cnf_line<'a>(matches: &ArgMatches<'a>) -> CommandLine<'a>
         trace: text_of(matches, "trace"),
         workers: workers_of(matches),
     };
-    CommandLine {
-        line,
-        explains: explains_of(matches),
-        picture: optional_text_of(matches, "picture"),
-    }
+    command_line_of(matches, line)
 }

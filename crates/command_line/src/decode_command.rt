@@ -6,10 +6,9 @@ ghost use Rattle.clap.specs.declared.builder.command.Command.TheViews.{out-Comma
 ghost use Rattle.command_line.specs.Arguments.{HasFlag, all_texts};
 ghost use Rattle.command_line.specs.CommandLine.{AsksWith, decode_app};
 
-use crate::arguments::{optional_text_of, path_argument, text_of, trace_argument};
+use crate::arguments::{path_argument, text_of, trace_argument};
 use crate::building::{CommandHelp, command_of_two};
-use crate::explains::explains_of;
-use crate::line::{CommandLine, Line};
+use crate::line::{CommandLine, Line, command_line_of};
 use clap::{ArgMatches, Command};
 use std::alloc::{AllocError, Global};
 
@@ -61,9 +60,5 @@ pub fn decode_line<'a>(matches: &ArgMatches<'a>) -> CommandLine<'a>
         trace: text_of(matches, "trace"),
         model: text_of(matches, "model"),
     };
-    CommandLine {
-        line,
-        explains: explains_of(matches),
-        picture: optional_text_of(matches, "picture"),
-    }
+    command_line_of(matches, line)
 }

@@ -1,14 +1,16 @@
 //! What a command line asks for.
 
-ghost use Rattle.std.specs.Prelude.{◌≡◌, IfErr, IfOk, OnOk, true};
-ghost use Rattle.clap.specs.Words.{FailsBy, fault_of, kind_of, subcommand_of, subcommand_rows_of, takes};
+ghost use Rattle.std.specs.Prelude.{◌≡◌, IfErr, IfOk, OnOk, Option, codes, true};
+ghost use Rattle.clap.specs.Words.{FailsBy, Text, fault_of, first_value, found_of, kind_of, subcommand_of, subcommand_rows_of, takes};
 ghost use Rattle.clap.specs.Walk.{texts};
-ghost use Rattle.command_line.specs.CommandLine.{Asks, IsFaultOf, IsFaultless, IsWithinRanges, vsc_app};
+ghost use Rattle.command_line.specs.Arguments.{HasFlag, all_texts};
+ghost use Rattle.command_line.specs.CommandLine.{Asks, AsksFor, AsksWith, IsFaultOf, IsFaultless, IsWithinRanges, vsc_app};
 
+use crate::arguments::optional_text_of;
 use crate::batch_command::batch_line;
 use crate::cnf_command::cnf_line;
 use crate::decode_command::decode_line;
-use crate::explains::Explains;
+use crate::explains::{Explains, explains_of};
 use crate::judge_command::judge_line;
 use crate::line_fault::LineFault;
 use crate::lrat_command::lrat_line;
@@ -147,6 +149,23 @@ pub struct CommandLine<'a> {
     pub explains: Explains,
     /// The path of the file that takes a picture, if one was given. Only `verify` and `survey` have that option.
     pub picture: Option<&'a str>,
+}
+
+/// Gives what the matches of a command ask for, by what the command is to do.
+///
+/// A command that has no `--picture` finds none. It is looked up nevertheless: the contract, which is the same for each command, says that what was
+/// given for it is handed on.
+pub(crate) fn command_line_of<'a>(matches: &ArgMatches<'a>, line: Line<'a>) -> CommandLine<'a>
+    requires explain { HasFlag (codes "explain") (found_of matches.now) }
+    requires no_explain { HasFlag (codes "no-explain") (found_of matches.now) }
+    ensures { (command : Option Text) → AsksFor command (first_value (found_of matches.now)) (all_texts (found_of matches.now)) line.entry →
+        AsksWith command (first_value (found_of matches.now)) (all_texts (found_of matches.now)) result }
+{
+    CommandLine {
+        line,
+        explains: explains_of(matches),
+        picture: optional_text_of(matches, "picture"),
+    }
 }
 
 // What `clap` makes of the words.

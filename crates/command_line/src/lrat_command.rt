@@ -6,10 +6,9 @@ ghost use Rattle.clap.specs.declared.builder.command.Command.TheViews.{out-Comma
 ghost use Rattle.command_line.specs.Arguments.{HasFlag, all_texts};
 ghost use Rattle.command_line.specs.CommandLine.{AsksWith, lrat_app};
 
-use crate::arguments::{optional_text_of, path_argument, text_of};
+use crate::arguments::{path_argument, text_of};
 use crate::building::{CommandHelp, command_of_two};
-use crate::explains::explains_of;
-use crate::line::{CommandLine, Line};
+use crate::line::{CommandLine, Line, command_line_of};
 use clap::{ArgMatches, Command};
 use std::alloc::{AllocError, Global};
 
@@ -54,9 +53,5 @@ pub fn lrat_line<'a>(matches: &ArgMatches<'a>) -> CommandLine<'a>
         cnf: text_of(matches, "cnf"),
         proof: text_of(matches, "proof"),
     };
-    CommandLine {
-        line,
-        explains: explains_of(matches),
-        picture: optional_text_of(matches, "picture"),
-    }
+    command_line_of(matches, line)
 }

@@ -3,11 +3,18 @@
 ghost use Rattle.std.specs.Prelude.{◌≡◌, IsSomeAnd, codes, false};
 ghost use Rattle.clap.specs.Words.{first_value, found_of, rule_of};
 ghost use Rattle.command_line.specs.Arguments.{HasNumber, HasWorkers};
-ghost use Rattle.command_line.specs.CommandLine.{IsNumberWithin, budget_rule, number_rule, rounds_rule, split_rule, steps_rule, workers_rule};
+ghost use Rattle.command_line.specs.CommandLine.{IsNumberWithin, budget_rule, number_rule, split_rule, workers_rule};
 
 use clap::builder::ValueParser;
 use clap::{Arg, ArgMatches};
 use std::alloc::Global;
+
+/// What the help of `verify` and `survey` says of `--workers`.
+pub const SEARCHERS: &str = "How many threads may search, 1 to 8";
+
+const SPLIT: &str = "Splits first into 2^N cubes, 0 to 10";
+
+const BUDGET: &str = "Most conflicts a cube, 0 to 1000000000";
 
 /// `--workers N`.
 pub fn workers_argument<'a>(alloc: Global, help: &'a str) -> Arg<'a>
@@ -23,7 +30,7 @@ pub fn workers_argument<'a>(alloc: Global, help: &'a str) -> Arg<'a>
 }
 
 /// An option with a number in this range, and the text that stands for it where it is not given.
-fn number_argument<'a>(
+pub fn number_argument<'a>(
     alloc: Global,
     id: &'a str,
     default: &'a str,
@@ -47,14 +54,7 @@ pub fn split_argument<'a>(alloc: Global) -> Arg<'a>
     ensures rule { rule_of result ≡ split_rule }
     ensures local { result.global ≡ false }
 {
-    number_argument(
-        alloc,
-        "split",
-        "3",
-        0,
-        10,
-        "Splits first into 2^N cubes, 0 to 10",
-    )
+    number_argument(alloc, "split", "3", 0, 10, SPLIT)
 }
 
 /// `--budget N`.
@@ -62,44 +62,7 @@ pub fn budget_argument<'a>(alloc: Global) -> Arg<'a>
     ensures rule { rule_of result ≡ budget_rule }
     ensures local { result.global ≡ false }
 {
-    number_argument(
-        alloc,
-        "budget",
-        "100000",
-        0,
-        1_000_000_000,
-        "Most conflicts a cube, 0 to 1000000000",
-    )
-}
-
-/// `--budget N` of a survey.
-pub fn steps_argument<'a>(alloc: Global) -> Arg<'a>
-    ensures rule { rule_of result ≡ steps_rule }
-    ensures local { result.global ≡ false }
-{
-    number_argument(
-        alloc,
-        "budget",
-        "1000000000",
-        0,
-        1_000_000_000,
-        "Most steps, 0 to 1000000000",
-    )
-}
-
-/// `--rounds N`.
-pub fn rounds_argument<'a>(alloc: Global) -> Arg<'a>
-    ensures rule { rule_of result ≡ rounds_rule }
-    ensures local { result.global ≡ false }
-{
-    number_argument(
-        alloc,
-        "rounds",
-        "1",
-        1,
-        4,
-        "Most rounds of the search, 1 to 4",
-    )
+    number_argument(alloc, "budget", "100000", 0, 1_000_000_000, BUDGET)
 }
 
 /// The number of workers that was given, or else the one that stands for it.

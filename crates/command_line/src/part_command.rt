@@ -1,18 +1,15 @@
 //! The command `part TRACE NAMES [--names]`.
 
 ghost use Rattle.std.specs.Prelude.{◌≡◌, IfOk, IsSome, Some, codes, false};
-ghost use Rattle.clap.specs.Words.{app_of, first_value, found_of, rule_of};
+ghost use Rattle.clap.specs.Words.{app_of, first_value, found_of};
 ghost use Rattle.clap.specs.declared.builder.command.Command.TheViews.{out-Command};
 ghost use Rattle.command_line.specs.Arguments.{HasFlag, all_texts};
-ghost use Rattle.command_line.specs.CommandLine.{AsksWith, part_app, show_names_rule};
+ghost use Rattle.command_line.specs.CommandLine.{AsksWith, part_app};
 
-use crate::arguments::{
-    flag_argument, flag_of, optional_text_of, path_argument, text_of, trace_argument,
-};
+use crate::arguments::{flag_argument, flag_of, path_argument, text_of, trace_argument};
 use crate::building::{CommandHelp, command_of_three};
-use crate::explains::explains_of;
-use crate::line::{CommandLine, Line};
-use clap::{Arg, ArgMatches, Command};
+use crate::line::{CommandLine, Line, command_line_of};
+use clap::{ArgMatches, Command};
 use std::alloc::{AllocError, Global};
 
 const ABOUT: &str = "Writes the part of a trace that some of its operations make up";
@@ -33,18 +30,9 @@ Exit status:
     2  the command line or a file is refused
     4  a file or a standard stream failed";
 
-// `--names`. Its id is another one, as `names` is the id of the path NAMES.
-fn show_names_argument<'a>(alloc: Global) -> Arg<'a>
-    ensures rule { rule_of result ≡ show_names_rule }
-    ensures local { result.global ≡ false }
-{
-    flag_argument(
-        alloc,
-        "show-names",
-        "names",
-        "Writes '# Q.2', the name in TRACE, before each operation",
-    )
-}
+const NAMES: &str = "A file with names of operations, one a line, in any order";
+
+const SHOW_NAMES: &str = "Writes '# Q.2', the name in TRACE, before each operation";
 
 /// The command, as `clap` takes it.
 pub fn new_part_command<'a>(alloc: Global) -> Result<Command<'a>, AllocError>
@@ -52,13 +40,9 @@ pub fn new_part_command<'a>(alloc: Global) -> Result<Command<'a>, AllocError>
     ensures local { IfOk result (λ c. (out-Command c).has_globals ≡ false) }
 {
     let trace = trace_argument(alloc);
-    let names = path_argument(
-        alloc,
-        "names",
-        "NAMES",
-        "A file with names of operations, one a line, in any order",
-    );
-    let shows_names = show_names_argument(alloc);
+    let names = path_argument(alloc, "names", "NAMES", NAMES);
+    // Its id is another one than its name, as `names` is the id of the path NAMES.
+    let shows_names = flag_argument(alloc, "show-names", "names", SHOW_NAMES);
     let help = CommandHelp {
         name: "part",
         about: ABOUT,
@@ -81,9 +65,5 @@ pub fn part_line<'a>(matches: &ArgMatches<'a>) -> CommandLine<'a>
         names: text_of(matches, "names"),
         shows_names: flag_of(matches, "show-names"),
     };
-    CommandLine {
-        line,
-        explains: explains_of(matches),
-        picture: optional_text_of(matches, "picture"),
-    }
+    command_line_of(matches, line)
 }

@@ -1,18 +1,17 @@
 //! The command `recheck TRACE CERT [--part NAMES]`.
 
 ghost use Rattle.std.specs.Prelude.{◌≡◌, IfOk, IsSome, Some, codes, false};
-ghost use Rattle.clap.specs.Words.{app_of, first_value, found_of, rule_of};
+ghost use Rattle.clap.specs.Words.{app_of, first_value, found_of};
 ghost use Rattle.clap.specs.declared.builder.command.Command.TheViews.{out-Command};
 ghost use Rattle.command_line.specs.Arguments.{HasFlag, all_texts};
-ghost use Rattle.command_line.specs.CommandLine.{AsksWith, part_rule, recheck_app};
+ghost use Rattle.command_line.specs.CommandLine.{AsksWith, recheck_app};
 
 use crate::arguments::{
     optional_path_argument, optional_text_of, path_argument, text_of, trace_argument,
 };
 use crate::building::{CommandHelp, command_of_three};
-use crate::explains::explains_of;
-use crate::line::{CommandLine, Line};
-use clap::{Arg, ArgMatches, Command};
+use crate::line::{CommandLine, Line, command_line_of};
+use clap::{ArgMatches, Command};
 use std::alloc::{AllocError, Global};
 
 const ABOUT: &str = "Checks a certificate that a trace has no legal schedule";
@@ -33,18 +32,9 @@ Exit status:
     2  the command line or a file is refused, or a proof is wrong or missing
     4  a file or a standard stream failed";
 
-// `--part NAMES`.
-fn part_argument<'a>(alloc: Global) -> Arg<'a>
-    ensures rule { rule_of result ≡ part_rule }
-    ensures local { result.global ≡ false }
-{
-    optional_path_argument(
-        alloc,
-        "part",
-        "NAMES",
-        "Takes CERT as one of the part of TRACE that NAMES names",
-    )
-}
+const CERT: &str = "A file with a certificate, as 'vsc verify --cert' writes it";
+
+const PART: &str = "Takes CERT as one of the part of TRACE that NAMES names";
 
 /// The command, as `clap` takes it.
 pub fn new_recheck_command<'a>(alloc: Global) -> Result<Command<'a>, AllocError>
@@ -52,13 +42,8 @@ pub fn new_recheck_command<'a>(alloc: Global) -> Result<Command<'a>, AllocError>
     ensures local { IfOk result (λ c. (out-Command c).has_globals ≡ false) }
 {
     let trace = trace_argument(alloc);
-    let cert = path_argument(
-        alloc,
-        "cert",
-        "CERT",
-        "A file with a certificate, as 'vsc verify --cert' writes it",
-    );
-    let part = part_argument(alloc);
+    let cert = path_argument(alloc, "cert", "CERT", CERT);
+    let part = optional_path_argument(alloc, "part", "NAMES", PART);
     let help = CommandHelp {
         name: "recheck",
         about: ABOUT,
@@ -80,9 +65,5 @@ pub fn recheck_line<'a>(matches: &ArgMatches<'a>) -> CommandLine<'a>
         cert: text_of(matches, "cert"),
         part: optional_text_of(matches, "part"),
     };
-    CommandLine {
-        line,
-        explains: explains_of(matches),
-        picture: optional_text_of(matches, "picture"),
-    }
+    command_line_of(matches, line)
 }

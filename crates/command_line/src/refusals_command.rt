@@ -6,9 +6,7 @@ ghost use Rattle.clap.specs.declared.builder.command.Command.TheViews.{out-Comma
 ghost use Rattle.command_line.specs.Arguments.{HasFlag, all_texts};
 ghost use Rattle.command_line.specs.CommandLine.{AsksWith, refusals_app};
 
-use crate::arguments::optional_text_of;
-use crate::explains::explains_of;
-use crate::line::{CommandLine, Line};
+use crate::line::{CommandLine, Line, command_line_of};
 use clap::{ArgMatches, Command};
 use std::alloc::{AllocError, Global};
 
@@ -45,9 +43,5 @@ pub fn refusals_line<'a>(matches: &ArgMatches<'a>) -> CommandLine<'a>
     requires no_explain { HasFlag (codes "no-explain") (found_of matches.now) }
     ensures { AsksWith (Some (codes "refusals")) (first_value (found_of matches.now)) (all_texts (found_of matches.now)) result }
 {
-    CommandLine {
-        line: Line::Refusals,
-        explains: explains_of(matches),
-        picture: optional_text_of(matches, "picture"),
-    }
+    command_line_of(matches, Line::Refusals)
 }

@@ -2,20 +2,19 @@
 //! [--picture FILE] [--hint FILE]`.
 
 ghost use Rattle.std.specs.Prelude.{◌≡◌, IfOk, IsSome, Some, codes, false, option_map};
-ghost use Rattle.clap.specs.Words.{app_of, first_value, found_of, rule_of};
+ghost use Rattle.clap.specs.Words.{app_of, first_value, found_of};
 ghost use Rattle.clap.specs.declared.builder.command.Command.TheViews.{out-Command};
 ghost use Rattle.command_line.specs.Arguments.{HasFlag, HasNumber, HasWorkers, all_texts};
-ghost use Rattle.command_line.specs.CommandLine.{AsksWith, cert_rule, hint_rule, names_rule, part_rule, survey_app};
+ghost use Rattle.command_line.specs.CommandLine.{AsksWith, survey_app};
 
 use crate::arguments::{
     flag_of, optional_path_argument, optional_text_of, picture_argument, progress_argument,
     text_of, trace_argument,
 };
 use crate::building::{CommandHelp, command_of_three, with_two};
-use crate::explains::explains_of;
-use crate::line::{CommandLine, Line, SurveyFiles, SurveyNumbers};
-use crate::numbers::{budget_of, steps_argument, workers_argument, workers_of};
-use clap::{Arg, ArgMatches, Command};
+use crate::line::{CommandLine, Line, SurveyFiles, SurveyNumbers, command_line_of};
+use crate::numbers::{SEARCHERS, budget_of, number_argument, workers_argument, workers_of};
+use clap::{ArgMatches, Command};
 use std::alloc::{AllocError, Global};
 
 const ABOUT: &str = "Decides whether a long trace is sequentially consistent, by a survey";
@@ -42,57 +41,15 @@ Exit status:
     3  the answer is UNKNOWN
     4  a file or a standard stream failed";
 
-// `--cert FILE`.
-fn cert_argument<'a>(alloc: Global) -> Arg<'a>
-    ensures rule { rule_of result ≡ cert_rule }
-    ensures local { result.global ≡ false }
-{
-    optional_path_argument(
-        alloc,
-        "cert",
-        "FILE",
-        "Writes the proofs of the core's part to FILE",
-    )
-}
+const CERT: &str = "Writes the proofs of the core's part to FILE";
 
-// `--names FILE`.
-fn names_argument<'a>(alloc: Global) -> Arg<'a>
-    ensures rule { rule_of result ≡ names_rule }
-    ensures local { result.global ≡ false }
-{
-    optional_path_argument(
-        alloc,
-        "names",
-        "FILE",
-        "Writes the names of the core to FILE, one a line",
-    )
-}
+const NAMES: &str = "Writes the names of the core to FILE, one a line";
 
-// `--part FILE`.
-fn part_argument<'a>(alloc: Global) -> Arg<'a>
-    ensures rule { rule_of result ≡ part_rule }
-    ensures local { result.global ≡ false }
-{
-    optional_path_argument(
-        alloc,
-        "part",
-        "FILE",
-        "Writes the core's part to FILE, as a trace",
-    )
-}
+const PART: &str = "Writes the core's part to FILE, as a trace";
 
-// `--hint FILE`.
-fn hint_argument<'a>(alloc: Global) -> Arg<'a>
-    ensures rule { rule_of result ≡ hint_rule }
-    ensures local { result.global ≡ false }
-{
-    optional_path_argument(
-        alloc,
-        "hint",
-        "FILE",
-        "Reads a schedule, maybe a legal one, and begins there",
-    )
-}
+const STEPS: &str = "Most steps, 0 to 1000000000";
+
+const HINT: &str = "Reads a schedule, maybe a legal one, and begins there";
 
 /// The command, as `clap` takes it.
 pub fn new_survey_command<'a>(alloc: Global) -> Result<Command<'a>, AllocError>
@@ -100,22 +57,22 @@ pub fn new_survey_command<'a>(alloc: Global) -> Result<Command<'a>, AllocError>
     ensures local { IfOk result (λ c. (out-Command c).has_globals ≡ false) }
 {
     let trace = trace_argument(alloc);
-    let cert = cert_argument(alloc);
-    let names = names_argument(alloc);
+    let cert = optional_path_argument(alloc, "cert", "FILE", CERT);
+    let names = optional_path_argument(alloc, "names", "FILE", NAMES);
     let help = CommandHelp {
         name: "survey",
         about: ABOUT,
         example: AFTER_HELP,
     };
     let command = command_of_three(alloc, help, trace, cert, names)?;
-    let part = part_argument(alloc);
-    let budget = steps_argument(alloc);
+    let part = optional_path_argument(alloc, "part", "FILE", PART);
+    let budget = number_argument(alloc, "budget", "1000000000", 0, 1_000_000_000, STEPS);
     let command = with_two(command, part, budget)?;
-    let workers = workers_argument(alloc, "How many threads may search, 1 to 8");
+    let workers = workers_argument(alloc, SEARCHERS);
     let progress = progress_argument(alloc);
     let command = with_two(command, workers, progress)?;
     let picture = picture_argument(alloc);
-    let hint = hint_argument(alloc);
+    let hint = optional_path_argument(alloc, "hint", "FILE", HINT);
     with_two(command, picture, hint)
 }
 
@@ -154,9 +111,5 @@ pub fn survey_line<'a>(matches: &ArgMatches<'a>) -> CommandLine<'a>
         numbers,
         progress: flag_of(matches, "progress"),
     };
-    CommandLine {
-        line,
-        explains: explains_of(matches),
-        picture: optional_text_of(matches, "picture"),
-    }
+    command_line_of(matches, line)
 }

@@ -2,23 +2,22 @@
 //! [--picture FILE]`.
 
 ghost use Rattle.std.specs.Prelude.{◌≡◌, IfOk, IsSome, Some, codes, false};
-ghost use Rattle.clap.specs.Words.{app_of, first_value, found_of, rule_of};
+ghost use Rattle.clap.specs.Words.{app_of, first_value, found_of};
 ghost use Rattle.clap.specs.declared.builder.command.Command.TheViews.{out-Command};
 ghost use Rattle.command_line.specs.Arguments.{HasFlag, HasNumber, HasWorkers, all_texts};
-ghost use Rattle.command_line.specs.CommandLine.{AsksWith, cert_rule, verify_app};
+ghost use Rattle.command_line.specs.CommandLine.{AsksWith, verify_app};
 
 use crate::arguments::{
     flag_of, optional_path_argument, optional_text_of, picture_argument, progress_argument,
     text_of, trace_argument,
 };
 use crate::building::{CommandHelp, command_of_two, with_two};
-use crate::explains::explains_of;
-use crate::line::{CommandLine, Line, SearchNumbers};
+use crate::line::{CommandLine, Line, SearchNumbers, command_line_of};
 use crate::numbers::{
-    budget_argument, budget_of, rounds_argument, rounds_of, split_argument, split_of,
+    SEARCHERS, budget_argument, budget_of, number_argument, rounds_of, split_argument, split_of,
     workers_argument, workers_of,
 };
-use clap::{Arg, ArgMatches, Command};
+use clap::{ArgMatches, Command};
 use std::alloc::{AllocError, Global};
 
 const ABOUT: &str = "Decides whether a trace is sequentially consistent";
@@ -42,18 +41,9 @@ Exit status:
     3  the answer is UNKNOWN
     4  a file or a standard stream failed";
 
-// `--cert FILE`.
-fn cert_argument<'a>(alloc: Global) -> Arg<'a>
-    ensures rule { rule_of result ≡ cert_rule }
-    ensures local { result.global ≡ false }
-{
-    optional_path_argument(
-        alloc,
-        "cert",
-        "FILE",
-        "Writes proofs of INCONSISTENT to FILE, for 'vsc recheck'",
-    )
-}
+const ROUNDS: &str = "Most rounds of the search, 1 to 4";
+
+const CERT: &str = "Writes proofs of INCONSISTENT to FILE, for 'vsc recheck'";
 
 /// The command, as `clap` takes it.
 pub fn new_verify_command<'a>(alloc: Global) -> Result<Command<'a>, AllocError>
@@ -61,18 +51,18 @@ pub fn new_verify_command<'a>(alloc: Global) -> Result<Command<'a>, AllocError>
     ensures local { IfOk result (λ c. (out-Command c).has_globals ≡ false) }
 {
     let trace = trace_argument(alloc);
-    let cert = cert_argument(alloc);
+    let cert = optional_path_argument(alloc, "cert", "FILE", CERT);
     let help = CommandHelp {
         name: "verify",
         about: ABOUT,
         example: AFTER_HELP,
     };
     let command = command_of_two(alloc, help, trace, cert)?;
-    let workers = workers_argument(alloc, "How many threads may search, 1 to 8");
+    let workers = workers_argument(alloc, SEARCHERS);
     let split = split_argument(alloc);
     let command = with_two(command, workers, split)?;
     let budget = budget_argument(alloc);
-    let rounds = rounds_argument(alloc);
+    let rounds = number_argument(alloc, "rounds", "1", 1, 4, ROUNDS);
     let command = with_two(command, budget, rounds)?;
     let progress = progress_argument(alloc);
     let picture = picture_argument(alloc);
@@ -103,9 +93,5 @@ pub fn verify_line<'a>(matches: &ArgMatches<'a>) -> CommandLine<'a>
         numbers,
         progress: flag_of(matches, "progress"),
     };
-    CommandLine {
-        line,
-        explains: explains_of(matches),
-        picture: optional_text_of(matches, "picture"),
-    }
+    command_line_of(matches, line)
 }

@@ -9,11 +9,11 @@ use Rattle.command_line.proofs.verify_command.new_verify_command.Goals as goal
 pub returns-clause-app : goal.returns-clause-app
 returns-clause-app c =
     let first : app_of c.in_ok-command.command ≡ with_rule (with_rule (new_app (codes "verify")) (required_path (codes "trace"))) cert_rule =
-    c.in_ok-command.ensures.app ∙ ap₂ with_rule (ap (with_rule (new_app (codes "verify"))) c.trace_argument-trace.ensures.rule) c.cert_argument-cert.ensures.rule in
+    c.in_ok-command.ensures.app ∙ ap₂ with_rule (ap (with_rule (new_app (codes "verify"))) c.trace_argument-trace.ensures.rule) c.optional_path_argument-cert.ensures.rule in
     let second : app_of c.in_ok-command-2.command ≡ with_rule (with_rule (with_rule (with_rule (new_app (codes "verify")) (required_path (codes "trace"))) cert_rule) workers_rule) split_rule =
     c.in_ok-command-2.ensures.app ∙ ap₂ with_rule (ap₂ with_rule first c.workers_argument-workers.ensures.rule) c.split_argument-split.ensures.rule in
     let third : app_of c.in_ok-command-3.command ≡ with_rule (with_rule (with_rule (with_rule (with_rule (with_rule (new_app (codes "verify")) (required_path (codes "trace"))) cert_rule) workers_rule) split_rule) budget_rule) rounds_rule =
-    c.in_ok-command-3.ensures.app ∙ ap₂ with_rule (ap₂ with_rule second c.budget_argument-budget.ensures.rule) c.rounds_argument-rounds.ensures.rule in
+    c.in_ok-command-3.ensures.app ∙ ap₂ with_rule (ap₂ with_rule second c.budget_argument-budget.ensures.rule) c.number_argument-rounds.ensures.rule in
     IfOk-weaker c.with_two-3.result _ _
     (λ r h. h ∙ ap₂ with_rule (ap₂ with_rule third c.progress_argument-progress.ensures.rule) c.picture_argument-picture.ensures.rule)
     c.with_two-3.ensures.app
