@@ -91,6 +91,12 @@ fn explain_operations(
     }
 }
 
+/// Notes these words, and behind them how many operations there are.
+fn explain_count(notes: &mut Notes, words: &[u8], names: &[OpName]) {
+    let count = decimal(names.len() as u64);
+    notes.note(&[words, count.as_slice()]);
+}
+
 /// Notes the operations of a core that was not refuted.
 fn explain_core(
     alloc: Global,
@@ -100,18 +106,19 @@ fn explain_core(
     names: &[OpName],
 ) {
     let number = names.len() as u64;
-    let count = decimal(number);
     if number > MAX_SHOWN {
+        let count = decimal(number);
         return notes.note(&[
             b"a survey finds ",
             count.as_slice(),
             b" operations that contradict each other: vsc survey names them",
         ]);
     }
-    notes.note(&[
+    explain_count(
+        notes,
         b"a survey, which nothing checks here, finds these operations in contradiction: ",
-        count.as_slice(),
-    ]);
+        names,
+    );
     explain_operations(alloc, notes, trace, places, names);
     notes.note(&[b"fewer may suffice; vsc part writes them as a trace, if a file has their names"]);
     notes.note(&[b"vsc survey finds and refutes such operations"]);
@@ -125,13 +132,12 @@ pub fn explain_refuted(
     places: &ShownPlaces,
     names: &[OpName],
 ) {
-    let number = names.len() as u64;
-    let count = decimal(number);
-    notes.note(&[
+    explain_count(
+        notes,
         b"the operations that contradict each other, as the proofs show: ",
-        count.as_slice(),
-    ]);
-    if number <= MAX_SHOWN {
+        names,
+    );
+    if names.len() as u64 <= MAX_SHOWN {
         explain_operations(alloc, notes, trace, places, names);
     }
 }

@@ -1,5 +1,6 @@
 //! Operations as they stand in a trace.
 
+use crate::named_operations::origin_of;
 use crate::sentence::Sentence;
 use note_text::decimal;
 use trace_semantics::operation::{Op, Origin, Span};
@@ -7,40 +8,25 @@ use trace_semantics::operation::{Op, Origin, Span};
 impl Sentence {
     /// Adds the operation as its line in a trace, as `R x 1 from P 2`.
     pub fn add_operation(&mut self, op: &Op) {
-        match op {
-            Op::Read {
-                location,
-                value,
-                origin,
-                ..
-            } => {
-                let read = decimal(*value);
-                self.add(&[b"R ", location.as_bytes(), b" ", read.as_slice()]);
-                self.add_origin(origin)
-            }
-            Op::Write {
-                location,
-                value,
-                ..
-            } => {
-                let left = decimal(*value);
-                self.add(&[b"W ", location.as_bytes(), b" ", left.as_slice()])
-            }
-            Op::Update {
-                location,
-                read,
-                left,
-                origin,
-                ..
-            } => {
-                let read = decimal(*read);
-                self.add(&[b"U ", location.as_bytes(), b" ", read.as_slice()]);
-                let left = decimal(*left);
-                self.add(&[b" ", left.as_slice()]);
-                self.add_origin(origin)
-            }
+        let letter: &[u8] = match op {
+            Op::Read { .. } => b"R ",
+            Op::Write { .. } => b"W ",
+            Op::Update { .. } => b"U ",
+        };
+        self.add(&[letter, op.location().as_bytes()]);
+        self.add_behind(op.value_read());
+        self.add_behind(op.written_value());
+        if let Some(origin) = origin_of(op) {
+            self.add_origin(origin);
         }
         self.add_span(op.span())
+    }
+
+    /// Adds a value, if there is one, and a blank before it.
+    fn add_behind(&mut self, value: Option<u64>) {
+        if let Some(value) = value {
+            self.add(&[b" ", decimal(value).as_slice()]);
+        }
     }
 
     /// Adds when an operation was under way by its line.
