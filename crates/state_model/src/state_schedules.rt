@@ -12,14 +12,25 @@ use trace_semantics::trace::Trace;
 /// The number of searches.
 const SEARCHES: u32 = 3;
 
-/// The breadth of the search of this number. More processes have more that can come next, so fewer states make as much work. Of 73 hard traces with a schedule
-/// the first search scheduled 58, the second five more, and the third six more, where a layer had 300 and 1,000 states, as with eight processes.
+/// The number of processes that have operations.
+fn busy_processes(log: &NumberedLog) -> u32 {
+    let mut count: u32 = 0;
+    for process in log.process_ids() {
+        if log.length(process) > 0 {
+            count = count.wrapping_add(1);
+        }
+    }
+    count
+}
+
+/// The breadth of the search of this number. More processes have more that can come next, so fewer states make as much work. In a prototype the first search
+/// scheduled 58 of 73 hard traces with a schedule, the second five more, and the third six more, where a layer had 300 and 1,000 states, as with eight processes.
 fn breadth(number: u32, processes: u32) -> Breadth {
-    let shared: u32 = if number == 0 { 2_400 } else { 8_000 };
+    let states_by_processes: u32 = if number == 0 { 2_400 } else { 8_000 };
     let states = if processes == 0 {
         1
     } else {
-        shared / processes
+        states_by_processes / processes
     };
     Breadth {
         states,
@@ -27,13 +38,14 @@ fn breadth(number: u32, processes: u32) -> Breadth {
     }
 }
 
-/// The most looks of a search, an eighth of a second. One of 160 operations takes some 12 million.
+/// The most looks of a search, a third of a second. One of 160 operations of eight processes on one location takes some 12 million with 1,000 states of a layer.
 const LOOKS: u64 = 32_000_000;
 
 /// The schedule of the first search that finds one.
 fn schedule_of(alloc: Global, log: &NumberedLog) -> Result<Option<Vec<OperationId>>, AllocError> {
+    let processes = busy_processes(log);
     for number in 0..SEARCHES {
-        let breadth = breadth(number, log.processes());
+        let breadth = breadth(number, processes);
         let found = schedule_by_states(alloc, log, breadth, Budget::new(LOOKS))?;
         if found.is_some() {
             return Ok(found);

@@ -1,4 +1,4 @@
-//! The states in which as many operations are placed.
+//! The states in which the same number of operations is placed.
 
 use crate::state::{FrontState, copy_entries};
 use crate::valued_log::ValueId;
@@ -6,7 +6,7 @@ use numbered_log::{ProcessId, ProcessPlace};
 use std::alloc::{AllocError, Global};
 use total_tables::{at, piece, size};
 
-/// How a state was come to: the operation of this process was placed in the parent, a state whose choice has this number among those that were gone on from.
+/// How a state was come to: by the next operation of the process, placed in the parent, which has this number, from 0, among the states that were gone on from.
 #[derive(Clone, Copy)]
 pub(crate) struct Choice {
     pub(crate) parent: u32,

@@ -3,14 +3,14 @@
 /// Prices are in tenths, so that states differ in price by a small weight of spare times too.
 const TENTHS: u32 = 10;
 
-/// How much counts that few plain writes can come over a value.
+/// What it costs that few plain writes can still come over a value.
 #[derive(Clone, Copy)]
 pub(crate) struct Prices {
     spare_weight: u32,
 }
 
 impl Prices {
-    /// The prices in which a value over which no plain write can come costs this much. An operation squared costs 1.
+    /// The prices in which a value over which no plain write can come costs this much. A process with one operation left costs 1.
     pub(crate) fn new(spare_weight: u32) -> Prices {
         Prices { spare_weight }
     }

@@ -6,8 +6,8 @@ use total_tables::{at, put};
 /// The number of slots, a power of two. They fit into the second cache of a processor.
 const SLOTS: u32 = 1 << 17;
 
-/// A slot for each mixed number of a state, of which the last one stays. A state that is met again, which mostly is soon, is seldom missed; one that is missed
-/// is kept twice, which costs time alone.
+/// Each mixed number of a state has one of the slots, which keeps the last number that was noted there. A state that is met again, which mostly is soon, is seldom
+/// missed; one that is missed is kept twice, and takes the place of another one.
 #[derive(Drop)]
 pub(crate) struct RecentStates {
     slots: Vec<u64>,

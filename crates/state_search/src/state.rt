@@ -53,7 +53,7 @@ fn mixed_front(process: ProcessId, front: ProcessPlace) -> u64 {
     mix(process.number(), front.number())
 }
 
-/// The part for a location that holds this value. Places are small, so no process has such a part.
+/// The part for a location that holds this value. Numbers of locations are inverted, and those of processes are small, so no process has such a part.
 #[inline(always)]
 fn mixed_held(location: LocationId, held: ValueId) -> u64 {
     mix(!location.number(), held.number())
@@ -142,7 +142,7 @@ impl FrontState {
     /// Returns whether the access finds what it needs.
     #[inline(always)]
     pub(crate) fn fits(&self, access: Access) -> bool {
-        access.is_plain_write() || access.needed == self.held(access.location)
+        access.needs_nothing() || access.needed == self.held(access.location)
     }
 
     /// Moves the process's front on by one.
@@ -190,7 +190,7 @@ impl FrontState {
     ) -> bool {
         let location = access.location;
         let held = self.held(location);
-        if access.is_plain_write() && !self.write_over(prices, held) {
+        if access.needs_nothing() && !self.write_over(prices, held) {
             return false;
         }
         self.mixed ^= mixed_held(location, held) ^ mixed_held(location, access.left);
@@ -206,7 +206,7 @@ impl FrontState {
             for _ in 0..log.count() {
                 let access = log.access(process, self.front(process));
                 // Behind the last operation there is an access that needs nothing either.
-                if access.is_plain_write() || access.changes() || !self.fits(access) {
+                if access.needs_nothing() || access.changes() || !self.fits(access) {
                     break;
                 }
                 self.pass(log, prices, process);

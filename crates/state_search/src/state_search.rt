@@ -90,6 +90,23 @@ impl<'a> StateSearch<'a> {
         })
     }
 
+    /// The most states of a layer with which the budget lasts to the last layer, if in each state half of the processes can go on.
+    fn affordable(&self) -> u32 {
+        let of_state = self
+            .looks
+            .saturating_mul(u64::from(self.log.processes() / 2).saturating_add(1));
+        let of_layers = of_state.saturating_mul(u64::from(self.log.count()));
+        if of_layers == 0 {
+            return 0;
+        }
+        let affordable = self.budget.left() / of_layers;
+        if affordable <= 0xffff_ffff {
+            affordable as u32
+        } else {
+            u32::MAX
+        }
+    }
+
     /// Adds the next state to its layer, unless it was met lately. It was come to by this choice.
     #[inline(always)]
     fn add_next(&mut self, choice: Choice) -> Result<(), AllocError> {
@@ -146,6 +163,9 @@ impl<'a> StateSearch<'a> {
         placed: u32,
         states: u32,
     ) -> Result<(), AllocError> {
+        if self.budget.is_spent() {
+            return Ok(());
+        }
         let ranked = layer.cheapest(alloc, states)?;
         for place in 0..size(ranked.as_slice()) {
             if self.budget.is_spent() {
@@ -171,6 +191,7 @@ impl<'a> StateSearch<'a> {
 
     /// Searches, and gives the choice by which the end of a schedule was come to.
     fn run(&mut self, alloc: Global, states: u32) -> Result<Option<Choice>, AllocError> {
+        let states = self.affordable().min(states);
         self.next.settle(self.log, self.prices);
         self.add_next(NO_CHOICE)?;
         let count = self.log.count();

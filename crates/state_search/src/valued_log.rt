@@ -46,9 +46,9 @@ impl Access {
         self.left != ValueId::NONE && self.left != self.needed
     }
 
-    /// Returns whether it comes over a value of which it reads nothing.
+    /// Returns whether it reads nothing, as a plain write.
     #[inline(always)]
-    pub(crate) fn is_plain_write(self) -> bool {
+    pub(crate) fn needs_nothing(self) -> bool {
         self.needed == ValueId::NONE
     }
 }
@@ -115,7 +115,7 @@ impl Drop for ValuedLog<'_> {
 }
 
 /// Adds one to the value's entry. There is none for `ValueId::NONE`.
-fn count(table: &mut Vec<u32>, value: ValueId) {
+fn add_one(table: &mut Vec<u32>, value: ValueId) {
     let more = at(table.as_slice(), value.number(), 0).wrapping_add(1);
     put(table.as_mut_slice(), value.number(), more);
 }
@@ -143,7 +143,8 @@ impl<'a> ValuedLog<'a> {
             }
             valued.add_access(number, &mut values)?;
         }
-        for location in log.location_ids() {
+        // A location without operations holds in the end what it held at first, so it is no part of a state.
+        for location in LocationId::first(valued.locations_of_accesses()) {
             let initial = values.number_of_known(location, log.initial(location))?;
             valued.initial.push(initial)?;
             let last = values.number_of_known(location, log.last(location))?;
@@ -170,6 +171,15 @@ impl<'a> ValuedLog<'a> {
         Ok(())
     }
 
+    /// The number of locations up to the last one that has an operation. Those that have none have the highest numbers.
+    fn locations_of_accesses(&self) -> u32 {
+        let mut count: u32 = 0;
+        for access in &self.accesses {
+            count = count.max(access.location.number().wrapping_add(1));
+        }
+        count
+    }
+
     /// Counts the times and the takers of this number of values.
     fn count_all(&mut self, alloc: Global, values: u32) -> Result<(), AllocError> {
         self.times = vec![in alloc; 0; values as usize]?;
@@ -177,15 +187,15 @@ impl<'a> ValuedLog<'a> {
         for number in 0..size(self.accesses.as_slice()) {
             let access = at(self.accesses.as_slice(), number, NO_ACCESS);
             if access.changes() {
-                count(&mut self.times, access.left);
-                count(&mut self.takers, access.needed);
+                add_one(&mut self.times, access.left);
+                add_one(&mut self.takers, access.needed);
             }
         }
         for location in 0..size(self.initial.as_slice()) {
             let initial = at(self.initial.as_slice(), location, ValueId::NONE);
-            count(&mut self.times, initial);
+            add_one(&mut self.times, initial);
             let last = at(self.last.as_slice(), location, ValueId::NONE);
-            count(&mut self.takers, last);
+            add_one(&mut self.takers, last);
         }
         Ok(())
     }

@@ -121,8 +121,8 @@ struct KeptTrace<'a> {
     clauses: &'a TraceClauses,
 }
 
-/// Searches the whole formula before its cubes: what is found there answers for all of them. If one search leaves it open, searches of its
-/// states look for a schedule, and if they find none, four searches go on with that one.
+/// Searches the whole formula before its cubes: what is found there answers for all of them. If one search leaves it open, searches of the
+/// trace's states look for a schedule, and if they find none, four searches go on from where it stopped.
 fn search_before_cubes<R: Threads + Wait + Sync, G: Gate>(
     alloc: Global,
     rt: &R,

@@ -2,7 +2,7 @@
 
 use crate::expectations::{ample, expect};
 use crate::long_traces::beams::{drawn_log, is_legal};
-use numbered_log::{Budget, NumberedLog, NumberedOrigin, OperationId};
+use numbered_log::{Budget, LocationId, NumberedLog, NumberedOrigin, OperationId};
 use state_search::{Breadth, schedule_by_states};
 use std::alloc::{AllocError, Global};
 
@@ -45,6 +45,44 @@ fn a_broad_search_schedules_each_short_run(rt: HostRuntime) {
 fn without_steps_no_schedule_is_found(rt: HostRuntime) {
     let alloc = rt.alloc();
     expect(&rt, ample(&rt, are_found_with(alloc, 24, 0)), 0);
+}
+
+#[test]
+fn a_narrow_search_schedules_some_runs(rt: HostRuntime) {
+    let alloc = rt.alloc();
+    let mut found: u32 = 0;
+    for seed in 0..20u64 {
+        let log = ample(&rt, drawn_log(alloc, seed, 40));
+        match ample(&rt, is_found(alloc, &log, 20, 100_000_000)) {
+            None => expect(&rt, false, seed as usize),
+            Some(true) => found = found.wrapping_add(1),
+            Some(false) => {}
+        }
+    }
+    expect(&rt, found > 0, 20);
+}
+
+#[test]
+fn the_log_without_operations_has_a_schedule(rt: HostRuntime) {
+    let alloc = rt.alloc();
+    let log = ample(&rt, NumberedLog::new(alloc, 0));
+    expect(
+        &rt,
+        ample(&rt, is_found(alloc, &log, 2000, 100)) == Some(true),
+        0,
+    );
+}
+
+#[test]
+fn a_value_that_nothing_leaves_is_no_final_value(rt: HostRuntime) {
+    let alloc = rt.alloc();
+    let mut log = ample(&rt, drawn_log(alloc, 1, 24));
+    log.set_last(LocationId::FIRST, Some(99));
+    expect(
+        &rt,
+        ample(&rt, is_found(alloc, &log, 2000, 100_000_000)) == Some(false),
+        0,
+    );
 }
 
 #[test]
