@@ -396,17 +396,17 @@ macro_rules! setting {
 }
 pub(crate) use setting;
 
-static BEAM: AtomicU64 = AtomicU64::new(0);
+static SEARCH: AtomicU64 = AtomicU64::new(0);
 static LEARNED: AtomicU64 = AtomicU64::new(0);
 static TRIMMED: AtomicU64 = AtomicU64::new(0);
 
-/// Notes which beam has found a schedule.
+/// Notes which search of states has found a schedule.
 pub fn note_search(number: u32) {
-    BEAM.store(u64::from(number), Ordering::SeqCst);
+    SEARCH.store(u64::from(number), Ordering::SeqCst);
 }
 
 pub fn noted_search() -> u64 {
-    BEAM.load(Ordering::SeqCst)
+    SEARCH.load(Ordering::SeqCst)
 }
 
 /// Notes how many steps of a derivation were learned, and how many are left of them.
