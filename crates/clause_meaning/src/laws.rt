@@ -12,7 +12,7 @@ ghost use Rattle.clause_meaning.specs.Meanings.{clause_of};
 ghost use Rattle.clause_meaning.specs.Starts.{meanings};
 ghost use Rattle.var_layout.specs.StoreBuffering.{store_buffering};
 
-/// Each clause of a trace's list is the one that says what the meaning at its place does.
+/// Each clause of a trace's list is the one that says what the meaning at its place does. On this rests what an explanation says of a clause.
 pub fn clauses_say_their_meanings()
     ensures { (t : TraceValue) → map (clause_of t) (meanings t) ≡ clauses_of t }
 {}

@@ -30,7 +30,8 @@ fn other_at(writer: usize, writers: &[usize], place: usize) -> Option<usize>
 }
 
 /// The meaning of the clause at this place, counted from 0, of those of n operations of which i is the lowest of three. They stand by rising
-/// middle and then highest operation, two for each, so a middle operation j has two for each of the n - j - 1 above it.
+/// middle and then highest operation, two for each, since three operations can stand in a cycle in two directions. So a middle operation j has two for
+/// each of the n - j - 1 above it. A trace has at most 160 operations that are kept.
 fn triple_at(n: usize, i: usize, place: usize) -> Option<ClauseMeaning>
     requires { n ≤ 160 }
     ensures { result ≡ slice_get (triples_from n i) place }

@@ -96,6 +96,9 @@ impl<'a> Propagation<'a> {
     }
 
     /// Adds that the process's operation at this place stands after the reader, unless it is the reader, there is none, or the rows say so.
+    ///
+    /// The analysis of a conflict asks of such a pair again what each source of the reader says of it, so the reader alone is noted as its reason. A
+    /// pair that is left out here costs the search something, and makes no answer wrong.
     fn add_behind(
         &mut self,
         reader: OperationId,

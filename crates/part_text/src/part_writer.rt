@@ -110,7 +110,7 @@ fn push_named_body(text: &mut Vec<u8>, part: &TracePart) -> Result<(), AllocErro
     push_pairs(text, pairs)
 }
 
-/// The text of the part with a comment before each operation, which has its name in the whole.
+/// The text of the part, some operations of a whole trace, with a comment before each, which has its name in the whole.
 fn write_named(alloc: Global, part: &TracePart) -> Result<Vec<u8>, AllocError>
     ensures { IfOk result (λ text. text.items ≡ part_text true part.now) }
 {

@@ -179,7 +179,7 @@ impl<'a> PreparedFormula<'a> {
 
     /// Enters what was found of the formula itself, with ids that leave room for this many literals of a cube. Returns whether that settles it.
     /// The checker counts a cube's literals as unit clauses behind those of the formula, and the steps behind them, so a derivation serves each cube of
-    /// at most this number of literals. What beams and searches in threads find of the formula is entered here too, by `trace_decision`.
+    /// at most this number of literals. What searches of states and searches in threads find of the formula is entered here too, by `trace_decision`.
     pub fn know(&mut self, literals: usize, answer: Answer) -> bool {
         match answer {
             Answer::Refuted(derivation) => {

@@ -60,7 +60,8 @@ fn ends_before(rest: &[u8], is_last: bool) -> bool
 }
 
 /// Cuts off the first piece of the text. A piece begins at each line whose first word is `vsc`; what stands before the first of these lines
-/// is a piece of its own if it says something, and else belongs to the first piece. The text may go on, unless it is the last one.
+/// is a piece of its own if a line of it says something (it has words, and is no comment), and else belongs to the first piece. The text is what was
+/// read of a stream so far: it may go on, unless it is the last one of the stream.
 ///
 /// The answer is nothing if the text is empty, or if it may go on and does not show where its first piece ends: after it no whole line
 /// begins a trace.
