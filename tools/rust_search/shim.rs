@@ -380,13 +380,6 @@ pub fn given_setting<T: FromStr>(name: &str, default: T) -> T {
     }
 }
 
-/// The value for this number of a setting that has a list of them. The last one is that of all higher numbers.
-pub fn listed_setting<T: FromStr + Copy>(name: &str, default: &str, number: u32) -> T {
-    let listed = given_setting(name, default.to_string());
-    let word = listed.split(',').take(number as usize + 1).last().unwrap_or("");
-    word.parse().ok().expect("a list of the setting's type")
-}
-
 /// The value of a setting, which is looked up once.
 macro_rules! setting {
     ($name:literal, $kind:ty, $default:expr) => {{
@@ -396,18 +389,8 @@ macro_rules! setting {
 }
 pub(crate) use setting;
 
-static SEARCH: AtomicU64 = AtomicU64::new(0);
 static LEARNED: AtomicU64 = AtomicU64::new(0);
 static TRIMMED: AtomicU64 = AtomicU64::new(0);
-
-/// Notes which search of states has found a schedule.
-pub fn note_search(number: u32) {
-    SEARCH.store(u64::from(number), Ordering::SeqCst);
-}
-
-pub fn noted_search() -> u64 {
-    SEARCH.load(Ordering::SeqCst)
-}
 
 /// Notes how many steps of a derivation were learned, and how many are left of them.
 pub fn note_steps(learned: u64, trimmed: usize) {

@@ -44,8 +44,8 @@ use schedule_decode::decode::schedule_of;
 use schedule_text::schedule_writer::write_schedule;
 use seat_rounds::seats::Seats;
 use shim::{Global, setting};
-use solver::{PreparedFormula, solve_cube};
-use state_model::model_by_states;
+use solver::{PreparedFormula, Search, solve_cube};
+use state_model::{StateSearches, model_by_states};
 use std::collections::HashMap;
 use std::env;
 use std::fmt;
@@ -212,32 +212,85 @@ fn winner_of<S: SharingLearner>(seats: &mut Seats<S>) -> Option<usize> {
     seats.round.seats.iter_mut().position(|slot| has_answer(slot.get_mut().end))
 }
 
-/// Does what `search_by_seats` does, where the budget may be that of each seat or of all together.
-fn search_by_seats<S: SharingLearner + Send>(searches: shim::Vec<Attempt<S>>, budget: u64, report: &mut Report) -> Answer {
-    let count = searches.len();
-    let sharers = if setting!("OWN_BUDGETS", u32, 0) == 0 { count as u64 } else { 1 };
-    let mut seats = Seats::new(Global, searches).expect("memory");
-    report.seats = vec![0; count];
-    let mut left = budget.saturating_sub(seats.additions());
-    loop {
-        let conflicts = setting!("ROUND_CONFLICTS", u64, 100).min(left / sharers);
-        if conflicts == 0 {
-            return Answer::Open;
-        }
-        left -= conflicts * sharers;
-        seats.begin_round(conflicts).expect("memory");
-        report.longest += run_round(&seats, count);
-        report.rounds += 1;
-        for (number, slot) in seats.round.seats.iter_mut().enumerate() {
-            report.seats[number] += slot.get_mut().attempt.log.additions();
-        }
-        if let Some(winner) = winner_of(&mut seats) {
-            report.found_by = format!("seat {winner}");
-        }
-        if let Some(answer) = seats.answer(setting!("MOST_STEPS", u64, budget)).expect("memory") {
-            return answer;
-        }
+/// Searches that go on in rounds, as `SeatSearch` has them, but that the budget may be that of each seat or of all together.
+struct SeatSearch<S: SharingLearner> {
+    seats: Seats<S>,
+    left: u64,
+    sharers: u64,
+    budget: u64,
+}
+
+impl<S: SharingLearner + Send> SeatSearch<S> {
+    fn new(searches: shim::Vec<Attempt<S>>, budget: u64, report: &mut Report) -> SeatSearch<S> {
+        let count = searches.len();
+        let sharers = if setting!("OWN_BUDGETS", u32, 0) == 0 { count as u64 } else { 1 };
+        let mut seats = Seats::new(Global, searches).expect("memory");
+        report.seats = vec![0; count];
+        let left = budget.saturating_sub(seats.additions());
+        SeatSearch { seats, left, sharers, budget }
     }
+
+    /// Goes on for at most this many rounds.
+    fn go_on(&mut self, rounds: u64, report: &mut Report) -> Option<Answer> {
+        for _ in 0..rounds {
+            let conflicts = setting!("ROUND_CONFLICTS", u64, 100).min(self.left / self.sharers);
+            if conflicts == 0 {
+                return Some(Answer::Open);
+            }
+            self.left -= conflicts * self.sharers;
+            self.seats.begin_round(conflicts).expect("memory");
+            report.longest += run_round(&self.seats, report.seats.len());
+            report.rounds += 1;
+            for (number, slot) in self.seats.round.seats.iter_mut().enumerate() {
+                report.seats[number] += slot.get_mut().attempt.log.additions();
+            }
+            if let Some(winner) = winner_of(&mut self.seats) {
+                report.found_by = format!("seat {winner}");
+            }
+            if let Some(answer) = self.seats.answer(setting!("MOST_STEPS", u64, self.budget)).expect("memory") {
+                return Some(answer);
+            }
+        }
+        None
+    }
+}
+
+/// A model by searches of states, which is noted as found by those of this name.
+fn model_of(reduced: &Reduced, clauses: &TraceClauses, searches: StateSearches, name: &'static str, report: &mut Report) -> Option<Answer> {
+    let model = model_by_states(Global, reduced.kept(), clauses, searches).expect("memory")?;
+    report.found_by = name.to_string();
+    Some(Answer::Model(model))
+}
+
+/// Does what `search_on` does.
+fn search_on<'a>(
+    reduced: &Reduced,
+    clauses: &TraceClauses,
+    prepared: &PreparedFormula<'a>,
+    first: Attempt<Search<'a>>,
+    budget: u64,
+    report: &mut Report,
+) -> Answer {
+    let found = model_of(reduced, clauses, StateSearches::Narrow, "narrow search", report);
+    report.end("narrow");
+    if let Some(answer) = found {
+        return answer;
+    }
+    shim::note_steps(0, 0);
+    let mut seats = SeatSearch::new(prepared.begin_seats(Global, first).expect("memory"), budget, report);
+    let found = seats.go_on(setting!("EARLY_ROUNDS", u64, 8), report);
+    report.end("early");
+    if let Some(answer) = found {
+        return answer;
+    }
+    let found = model_of(reduced, clauses, StateSearches::Broad, "broad search", report);
+    report.end("broad");
+    if let Some(answer) = found {
+        return answer;
+    }
+    let answer = seats.go_on(budget, report);
+    report.end("seats");
+    answer.unwrap_or(Answer::Open)
 }
 
 /// Does what `search_before_cubes` does.
@@ -256,18 +309,8 @@ fn search_before_cubes(reduced: &Reduced, clauses: &TraceClauses, prepared: &mut
         return;
     };
     report.handed_on = first.log.additions();
-    let model = model_by_states(Global, reduced.kept(), clauses).expect("memory");
-    report.end("states");
-    if let Some(model) = model {
-        report.found_by = format!("states {}", shim::noted_search());
-        prepared.know(splits.len(), Answer::Model(model));
-        return;
-    }
-    shim::note_steps(0, 0);
-    let seats = prepared.begin_seats(Global, first).expect("memory");
-    let answer = search_by_seats(seats, budget, report);
+    let answer = search_on(reduced, clauses, prepared, first, budget, report);
     prepared.know(splits.len(), answer);
-    report.end("seats");
 }
 
 /// Searches the formula itself by one search, as `--split 0 --workers 1` does.

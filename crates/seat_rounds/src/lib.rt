@@ -1,6 +1,6 @@
 //! Several searches of one formula that share what they learn, in rounds (Hamadi, Jabbour and Sais, "ManySAT: a parallel SAT solver", 2009).
 //!
-//! - `search_by_seats` goes on with such searches until one has an answer, or all together have used up a budget.
+//! - `SeatSearch` goes on with such searches until one has an answer, or all together have used up a budget. It can be asked for some rounds at a time.
 //!
 //! A seat is a search with its place among them. A round is a search of a tree whose leaves stand for the seats: the worker that takes a leaf's
 //! job runs the seat of the leaf, and answers that the leaf is open. Rounds are counted in conflicts and each seat runs in each of them, so
@@ -13,4 +13,4 @@ mod rounds;
 mod seat;
 mod seats;
 
-pub use rounds::search_by_seats;
+pub use rounds::SeatSearch;

@@ -1,6 +1,6 @@
 //! Rounds, until there is an answer or the budget is used up.
 
-ghost use Rattle.std.specs.Prelude.{IfOk};
+ghost use Rattle.std.specs.Prelude.{IfOk, IfSome};
 ghost use Rattle.cube_jobs.specs.Results.{AreLeaves};
 ghost use Rattle.cube_tree.specs.CubeTree.{cubes_of};
 ghost use Rattle.proof_log.specs.Answers.{IsWithin};
@@ -12,6 +12,7 @@ use cube_queue::search;
 use cube_tree::Tree;
 use dimacs::ClauseList;
 use proof_log::{Answer, Attempt, SharingLearner};
+use std::alloc::{AllocError, Global};
 use std::sync::Wait;
 use std::thread::Threads;
 
@@ -44,41 +45,69 @@ fn run_round<R: Threads + Wait + Sync, L: ClauseList + Sync, S: SharingLearner +
     Ok(seats.additions())
 }
 
-/// Goes on with these searches of the formula, in rounds, until one has an answer or all together have had `budget` conflicts, with those that
-/// the first of them has had already. The lowest one that has an answer wins. After each round they exchange what they have learned. A search whose
-/// number is not that of a leaf of the tree waits. Each round is searched by the workers of the options, and the gate gets its conflicts.
-pub fn search_by_seats<
-    R: Threads + Wait + Sync,
-    L: ClauseList + Sync,
-    S: SharingLearner + Drop + Send,
-    G: Gate,
->(
-    run: &SearchRun<'_, R, G>,
-    formula: &L,
-    tree: &Tree,
-    searches: Vec<Attempt<S>>,
-    budget: u64,
-) -> Result<Answer, SearchFault>
-    ensures { IfOk result (λ answer. IsWithin budget answer) }
-{
-    let leaves = leaves_of(run.alloc, tree)?;
-    let count = searches.len().max(1) as u64;
-    let mut seats = Seats::new(run.alloc, searches)?;
-    // Before the first round the only additions are those of the first search, which has begun before.
-    let mut left = budget.saturating_sub(seats.additions());
-    // Each round takes at least one conflict off what is left, so there is none after this number of rounds.
-    for _ in 0..budget {
-        let conflicts = ROUND_CONFLICTS.min(left / count);
-        if conflicts == 0 {
-            return Ok(Answer::Open);
-        }
-        // All seats are charged what they may use, also those that wait, so the number of rounds does not depend on what they use.
-        left = left.saturating_sub(conflicts.saturating_mul(count));
-        let had = run_round(run, formula, tree, leaves.as_slice(), &mut seats, conflicts)?;
-        run.gate.conflicts(had);
-        if let Some(answer) = seats.answer(budget)? {
-            return Ok(answer);
-        }
+/// Searches of one formula that go on in rounds, and the conflicts that they may still have.
+#[derive(Drop)]
+pub struct SeatSearch<S> {
+    seats: Seats<S>,
+    left: u64,
+}
+
+impl<S: SharingLearner + Drop + Send> SeatSearch<S> {
+    /// Starts with these searches, of which only the first may have learned clauses already. All together may have `budget` conflicts, with those
+    /// that the first has had.
+    pub fn new(
+        alloc: Global,
+        searches: Vec<Attempt<S>>,
+        budget: u64,
+    ) -> Result<SeatSearch<S>, AllocError> {
+        let mut seats = Seats::new(alloc, searches)?;
+        // Before the first round the only additions are those of the first search.
+        let left = budget.saturating_sub(seats.additions());
+        Ok(SeatSearch { seats, left })
     }
-    Ok(Answer::Open)
+
+    /// The conflicts that each seat may have in the next round, none if there is no further one. All seats are charged what they may use, also those
+    /// that wait, so the number of rounds does not depend on what they use.
+    fn charge_round(&mut self) -> u64 {
+        let count = self.seats.count().max(1);
+        let conflicts = ROUND_CONFLICTS.min(self.left / count);
+        self.left = self.left.saturating_sub(conflicts.saturating_mul(count));
+        conflicts
+    }
+
+    /// Goes on for at most this many rounds. The answer is that of the lowest search that has one, or `Open` if all together have had their conflicts;
+    /// there is none yet if the rounds are over before. After each round the searches exchange what they have learned. One whose number is not that of a
+    /// leaf of the tree waits. Each round is searched by the workers of the options, and the gate gets its conflicts. A derivation has at most `steps`
+    /// steps: if a longer one is found, the answer is `Open`.
+    pub fn go_on<R: Threads + Wait + Sync, L: ClauseList + Sync, G: Gate>(
+        &mut self,
+        run: &SearchRun<'_, R, G>,
+        formula: &L,
+        tree: &Tree,
+        rounds: u64,
+        steps: u64,
+    ) -> Result<Option<Answer>, SearchFault>
+        ensures { IfOk result (λ found. IfSome found (λ answer. IsWithin steps answer)) }
+    {
+        let leaves = leaves_of(run.alloc, tree)?;
+        for _ in 0..rounds {
+            let conflicts = self.charge_round();
+            if conflicts == 0 {
+                return Ok(Some(Answer::Open));
+            }
+            let had = run_round(
+                run,
+                formula,
+                tree,
+                leaves.as_slice(),
+                &mut self.seats,
+                conflicts,
+            )?;
+            run.gate.conflicts(had);
+            if let Some(answer) = self.seats.answer(steps)? {
+                return Ok(Some(answer));
+            }
+        }
+        Ok(None)
+    }
 }

@@ -45,6 +45,11 @@ impl<S: SharingLearner + Drop> Seats<S> {
         })
     }
 
+    /// How many seats there are.
+    pub(crate) fn count(&self) -> u64 {
+        self.round.seats.len() as u64
+    }
+
     /// Returns how many additions the seats have made in the last round.
     pub(crate) fn additions(&mut self) -> u64 {
         let mut additions: u64 = 0;

@@ -9,8 +9,30 @@ use std::alloc::{AllocError, Global};
 use trace_log::log_of;
 use trace_semantics::trace::Trace;
 
-/// The number of searches.
-const SEARCHES: u32 = 3;
+/// Which searches of states look for a schedule.
+#[derive(Clone, Copy)]
+pub enum StateSearches {
+    /// One that goes on from few states.
+    Narrow,
+    /// Two that go on from more states. For the second it matters less that a value has few spare times.
+    Broad,
+}
+
+/// The states of a layer times the number of processes: more processes have more that can come next, so fewer states make as much work. In a prototype
+/// the narrow search scheduled 58 of 73 hard traces with a schedule, and with the two broad ones 70, where a layer had 300 and 1,000 states, as with eight processes.
+const NARROW_STATES: u32 = 2_400;
+
+/// The same of the broad searches, which take three times as long each.
+const BROAD_STATES: u32 = 8_000;
+
+/// What a value costs over which no further plain write can come. In the prototype 1,000 states scheduled 63 traces with this weight, and 62 with half of it and with 300.
+const SPARE_WEIGHT: u32 = 200;
+
+/// The same where it matters less. By itself it scheduled fewer traces (60), but others.
+const SMALL_SPARE_WEIGHT: u32 = 10;
+
+/// The most looks of a search, a third of a second. One of 160 operations of eight processes on one location takes some 12 million with 1,000 states of a layer.
+const LOOKS: u64 = 32_000_000;
 
 /// The number of processes that have operations.
 fn busy_processes(log: &NumberedLog) -> u32 {
@@ -23,49 +45,57 @@ fn busy_processes(log: &NumberedLog) -> u32 {
     count
 }
 
-/// The breadth of the search of this number. More processes have more that can come next, so fewer states make as much work. In a prototype the first search
-/// scheduled 58 of 73 hard traces with a schedule, the second five more, and the third six more, where a layer had 300 and 1,000 states, as with eight processes.
-fn breadth(number: u32, processes: u32) -> Breadth {
-    let states_by_processes: u32 = if number == 0 { 2_400 } else { 8_000 };
+/// The schedule that a search finds which goes on from this many states, times the number of processes, and weighs spare times so.
+fn search(
+    alloc: Global,
+    log: &NumberedLog,
+    states_by_processes: u32,
+    spare_weight: u32,
+) -> Result<Option<Vec<OperationId>>, AllocError> {
+    let processes = busy_processes(log);
     let states = if processes == 0 {
         1
     } else {
         states_by_processes / processes
     };
-    Breadth {
+    let breadth = Breadth {
         states,
-        spare_weight: if number == 2 { 10 } else { 200 },
-    }
+        spare_weight,
+    };
+    schedule_by_states(alloc, log, breadth, Budget::new(LOOKS))
 }
 
-/// The most looks of a search, a third of a second. One of 160 operations of eight processes on one location takes some 12 million with 1,000 states of a layer.
-const LOOKS: u64 = 32_000_000;
-
-/// The schedule of the first search that finds one.
-fn schedule_of(alloc: Global, log: &NumberedLog) -> Result<Option<Vec<OperationId>>, AllocError> {
-    let processes = busy_processes(log);
-    for number in 0..SEARCHES {
-        let breadth = breadth(number, processes);
-        let found = schedule_by_states(alloc, log, breadth, Budget::new(LOOKS))?;
-        if found.is_some() {
-            return Ok(found);
+/// The schedule of the first of these searches that finds one.
+fn schedule_of(
+    alloc: Global,
+    log: &NumberedLog,
+    searches: StateSearches,
+) -> Result<Option<Vec<OperationId>>, AllocError> {
+    match searches {
+        StateSearches::Narrow => search(alloc, log, NARROW_STATES, SPARE_WEIGHT),
+        StateSearches::Broad => {
+            let found = search(alloc, log, BROAD_STATES, SPARE_WEIGHT)?;
+            if found.is_some() {
+                return Ok(found);
+            }
+            search(alloc, log, BROAD_STATES, SMALL_SPARE_WEIGHT)
         }
     }
-    Ok(None)
 }
 
-/// A model of these clauses, which are those of the trace, if a search of states schedules it. Such a search heeds program order alone,
+/// A model of these clauses, which are those of the trace, if one of these searches of states schedules it. Such a search heeds program order alone,
 /// so a trace that says of other operations which stands first is left to others. So is one with a value of a known origin.
 pub fn model_by_states(
     alloc: Global,
     trace: &Trace,
     clauses: &TraceClauses,
+    searches: StateSearches,
 ) -> Result<Option<Assignment>, AllocError> {
     if !clauses.layout().before().is_empty() {
         return Ok(None);
     }
     let log = log_of(alloc, trace)?;
-    match schedule_of(alloc, &log)? {
+    match schedule_of(alloc, &log, searches)? {
         Some(schedule) => Ok(Some(model_along(alloc, clauses, schedule.as_slice())?)),
         None => Ok(None),
     }

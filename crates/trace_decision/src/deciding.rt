@@ -22,13 +22,14 @@ use cube_jobs::{Gate, Options, SearchFault, SearchRun};
 use cube_tree::grow;
 use dimacs::{Assignment, ClauseList, Cube};
 use plain_lists::PlainList;
+use proof_log::Attempt;
 use reducer::expand::expand;
 use reducer::reduced::Reduced;
 use result_ledger::{Ledger, Verdict, inconsistent_has_no_model, unknown_holds_all_models};
 use schedule_decode::decode::schedule_of;
-use seat_rounds::search_by_seats;
-use solver::{Answer, CubeSolver, PreparedFormula, ReadsFromTable, SourceCounter};
-use state_model::model_by_states;
+use seat_rounds::SeatSearch;
+use solver::{Answer, CubeSolver, PreparedFormula, ReadsFromTable, Search, SourceCounter};
+use state_model::{StateSearches, model_by_states};
 use std::alloc::{AllocError, Global};
 use std::sync::Wait;
 use std::thread::Threads;
@@ -121,8 +122,37 @@ struct KeptTrace<'a> {
     clauses: &'a TraceClauses,
 }
 
-/// Searches the whole formula before its cubes: what is found there answers for all of them. If one search leaves it open, searches of the
-/// trace's states look for a schedule, and if they find none, four searches go on from where it stopped.
+/// Rounds of the four searches before the broad searches of states, which take about as long as these rounds do. An easy trace is decided in fewer.
+const EARLY_ROUNDS: u64 = 8;
+
+/// Goes on where one search of the whole formula has stopped: a narrow search of the trace's states looks for a schedule, four searches go on for some rounds,
+/// broad searches of states look for a schedule, and then the four go on until the budget is used up.
+fn search_on<'a, R: Threads + Wait + Sync, G: Gate>(
+    run: &SearchRun<'_, R, G>,
+    kept: KeptTrace<'_>,
+    prepared: &PreparedFormula<'a>,
+    first: Attempt<Search<'a>>,
+) -> Result<Answer, SearchFault> {
+    let alloc = run.alloc;
+    let clauses = kept.clauses;
+    let budget = run.options.budget();
+    if let Some(model) = model_by_states(alloc, kept.trace, clauses, StateSearches::Narrow)? {
+        return Ok(Answer::Model(model));
+    }
+    let tree = grow(alloc, clauses.layout(), SEATS_DEPTH)?;
+    let mut seats = SeatSearch::new(alloc, prepared.begin_seats(alloc, first)?, budget)?;
+    if let Some(answer) = seats.go_on(run, clauses, &tree, EARLY_ROUNDS, budget)? {
+        return Ok(answer);
+    }
+    if let Some(model) = model_by_states(alloc, kept.trace, clauses, StateSearches::Broad)? {
+        return Ok(Answer::Model(model));
+    }
+    // Each round takes a conflict off the budget at least, so there is no further round after as many.
+    let answer = seats.go_on(run, clauses, &tree, budget, budget)?;
+    Ok(answer.unwrap_or(Answer::Open))
+}
+
+/// Searches the whole formula before its cubes: what is found there answers for all of them.
 fn search_before_cubes<R: Threads + Wait + Sync, G: Gate>(
     alloc: Global,
     rt: &R,
@@ -131,9 +161,8 @@ fn search_before_cubes<R: Threads + Wait + Sync, G: Gate>(
     options: &Options,
     gate: &G,
 ) -> Result<(), SearchFault> {
-    let clauses = kept.clauses;
-    let layout = clauses.layout();
     let budget = options.budget();
+    let layout = kept.clauses.layout();
     let splits = layout.first_splits(alloc, options.split() as usize)?;
     prepared.count_whole(alloc, splits.len(), budget)?;
     // The number of splits is that of the literals of a cube: ids of what is found for the whole leave room for them. Without a search to go on with,
@@ -141,19 +170,13 @@ fn search_before_cubes<R: Threads + Wait + Sync, G: Gate>(
     let Some(first) = prepared.search_whole(alloc, splits.as_slice(), budget)? else {
         return Ok(());
     };
-    if let Some(model) = model_by_states(alloc, kept.trace, clauses)? {
-        prepared.know(splits.len(), Answer::Model(model));
-        return Ok(());
-    }
-    let tree = grow(alloc, layout, SEATS_DEPTH)?;
-    let seats = prepared.begin_seats(alloc, first)?;
     let run = SearchRun {
         alloc,
         rt,
         options,
         gate,
     };
-    let answer = search_by_seats(&run, clauses, &tree, seats, budget)?;
+    let answer = search_on(&run, kept, prepared, first)?;
     prepared.know(splits.len(), answer);
     Ok(())
 }

@@ -9,7 +9,7 @@ use cube_jobs::{OpenGate, Options, SearchRun};
 use cube_tree::{Tree, read_tree};
 use dimacs::Formula;
 use proof_log::Answer;
-use seat_rounds::search_by_seats;
+use seat_rounds::SeatSearch;
 use std::alloc::{AllocError, Global};
 use std::process::Abort;
 use std::sync::Wait;
@@ -68,8 +68,9 @@ fn found_once<R: Threads + Wait + Abort + Sync>(
         options: &options,
         gate: &OpenGate,
     };
-    match search_by_seats(&run, formula, tree, searches, BUDGET) {
-        Ok(answer) => Ok(Some(answer)),
+    let mut seats = SeatSearch::new(alloc, searches, BUDGET)?;
+    match seats.go_on(&run, formula, tree, BUDGET, BUDGET) {
+        Ok(answer) => Ok(answer),
         Err(fault) => {
             expect(rt, matches!(fault, PlainFault::OutOfMemory), 0);
             Ok(None)

@@ -8,7 +8,7 @@ use lrat_check::checker::check;
 use lrat_check::derivation::Derivation;
 use lrat_check::derivation_copies::are_same;
 use proof_log::Answer;
-use seat_rounds::search_by_seats;
+use seat_rounds::SeatSearch;
 use std::alloc::Global;
 use std::process::Abort;
 use std::sync::Wait;
@@ -68,10 +68,18 @@ fn answer_by<R: Threads + Wait + Abort + Sync>(
         options: &options,
         gate: &OpenGate,
     };
-    match search_by_seats(&run, formula, &tree, searches, BUDGET) {
-        Ok(answer) => answer,
-        Err(_) => panic!(rt; "there is no memory, or no thread"),
+    let Ok(mut seats) = SeatSearch::new(alloc, searches, BUDGET) else {
+        panic!(rt; "out of memory")
+    };
+    // Six rounds use up the conflicts, so the answer is there in the seventh at the latest.
+    for _ in 0..7 {
+        match seats.go_on(&run, formula, &tree, 1, BUDGET) {
+            Ok(Some(answer)) => return answer,
+            Ok(None) => (),
+            Err(_) => panic!(rt; "there is no memory, or no thread"),
+        }
     }
+    panic!(rt; "there is no answer in seven rounds")
 }
 
 /// The derivation that this number of workers finds by searches of these ends.
