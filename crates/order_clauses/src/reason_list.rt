@@ -58,7 +58,7 @@ fn put_order(
     Ok(ClauseOutcome::Made)
 }
 
-/// Appends literals that say the orders; `places` tells which literals the list has. It ends at the first order that gives none: then there is no
+/// Appends literals that say the orders; `places` knows which literals the list has. It ends at the first order that gives none: then there is no
 /// clause, and the list is worth nothing.
 fn put_orders(
     variables: &mut OrderVariables,

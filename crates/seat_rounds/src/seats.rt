@@ -45,7 +45,7 @@ impl<S: SharingLearner + Drop> Seats<S> {
         })
     }
 
-    /// How many seats there are.
+    /// The number of seats.
     pub(crate) fn count(&self) -> u64 {
         self.round.seats.len() as u64
     }
