@@ -9,7 +9,6 @@ ghost use Rattle.verdict_report.specs.Runs.{sink_run};
 
 use crate::asked_file::{close_asked, make_asked};
 use crate::clash::{clash_of, print_clash};
-use crate::engine_run::EngineRun;
 use crate::engine_runs::run_engine;
 use crate::explaining::{EndedLine, explain_outcome, explain_unmade};
 use crate::kept_run::KeptRun;
@@ -43,12 +42,7 @@ fn run_asked<'p, R: Threads + Wait + Sync, G: Gate + Sync, H: Host<'p>, O: Sink 
         result host.new }
     ensures known { IsExitStatus result }
 {
-    let run = EngineRun {
-        alloc: program.alloc,
-        rt: program.rt,
-        progress: program.progress,
-    };
-    let outcome = run_engine(&run, host, &asked.line, out, kept);
+    let outcome = run_engine(program, host, &asked.line, out, kept);
     tell_outcome(&outcome, err);
     if asked.explains.is_wanted(program.is_terminal) {
         let ended = EndedLine {

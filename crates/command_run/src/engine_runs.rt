@@ -14,10 +14,10 @@ ghost use Rattle.verdict_report.specs.Runs.{sink_run};
 
 use crate::asked_gate::AskedGate;
 use crate::batch_runs::{BatchTask, batch_of};
-use crate::engine_run::EngineRun;
 use crate::formed_runs::decide_batch;
 use crate::kept_run::KeptRun;
 use crate::opening::open;
+use crate::program_run::ProgramRun;
 use crate::refusals::write_refusals;
 use crate::search_runs::{search_of, survey_of};
 use crate::survey_runs::{SurveyPaths, survey_file};
@@ -78,7 +78,7 @@ fn judge_files<'p, H: Host<'p>, W: Sink>(
 
 /// Writes the clause list of the trace in the file at this path to the standard output.
 fn translate_file<'p, R: Threads + Sync, G, H: Host<'p>, W: Sink>(
-    run: &EngineRun<'_, R, G>,
+    run: &ProgramRun<'_, R, G>,
     host: &mut H,
     trace: &'p str,
     workers: u32,
@@ -202,7 +202,7 @@ fn part_files<'p, H: Host<'p>, W: Sink>(
 /// Decides whether the trace in the file at this path has a legal schedule, and writes the report to the standard output. The search is reported to
 /// the host.
 fn decide_file<'p, R: Threads + Wait + Sync, G: Gate + Sync, H: Host<'p>, W: Sink>(
-    run: &EngineRun<'_, R, G>,
+    run: &ProgramRun<'_, R, G>,
     host: &mut H,
     trace: &'p str,
     search: &SearchRequest,
@@ -222,7 +222,7 @@ fn decide_file<'p, R: Threads + Wait + Sync, G: Gate + Sync, H: Host<'p>, W: Sin
 
 /// The same, with a certificate. Its file is made or emptied before the trace is opened, and `Device` is answered if that is not possible.
 fn certify_file<'p, R: Threads + Wait + Sync, G: Gate + Sync, H: Host<'p>, W: Sink>(
-    run: &EngineRun<'_, R, G>,
+    run: &ProgramRun<'_, R, G>,
     host: &mut H,
     paths: CertifyPaths<'p>,
     search: &SearchRequest,
@@ -260,7 +260,7 @@ fn certify_file<'p, R: Threads + Wait + Sync, G: Gate + Sync, H: Host<'p>, W: Si
 /// A command is added here by a function as [`judge_files`] and an arm for its line, and in `specs/CommandRun.antt` by a line of
 /// `RunsLine`.
 pub(crate) fn run_engine<'p, R: Threads + Wait + Sync, G: Gate + Sync, H: Host<'p>, W: Sink>(
-    run: &EngineRun<'_, R, G>,
+    run: &ProgramRun<'_, R, G>,
     host: &mut H,
     line: &Line<'p>,
     out: &mut W,

@@ -27,12 +27,15 @@ struct InputText<'k> {
     failure: Option<String>,
 }
 
-/// The texts that a line reads, in the order of `KeptRun`. Which file each of them is, is known by the line.
+/// What is known of a run: the texts that its line reads, in the order of `KeptRun`, the report that standard output took, and how many bytes of a
+/// certificate were written. Which file each text is of, is known by the line.
 #[derive(Drop)]
-struct InputTexts<'k> {
+struct RunTexts<'k> {
     first: InputText<'k>,
     second: InputText<'k>,
     third: InputText<'k>,
+    report: Option<&'k [u8]>,
+    certificate_length: Option<u64>,
 }
 
 /// Gives what failed of what has this name, in words, if that is known and memory suffices.
@@ -54,12 +57,14 @@ fn input_text(alloc: Global, kept: &KeptText) -> InputText<'_> {
     }
 }
 
-/// Gives what is known of all texts.
-fn input_texts(alloc: Global, kept: &KeptRun) -> InputTexts<'_> {
-    InputTexts {
+/// Gives what is known of a run by what standard output took of it and by what was kept.
+fn run_texts<'k, O: Recalls>(alloc: Global, out: &'k O, kept: &'k KeptRun) -> RunTexts<'k> {
+    RunTexts {
         first: input_text(alloc, &kept.first),
         second: input_text(alloc, &kept.second),
         third: input_text(alloc, &kept.third),
+        report: out.recalled(),
+        certificate_length: kept.certificate_length,
     }
 }
 
@@ -87,44 +92,31 @@ fn failed_writing(
     }
 }
 
-/// The search of these numbers for the trace.
-fn asked_verify<'t>(
-    trace: NamedText<'t>,
-    numbers: SearchNumbers,
-    report: Option<&'t [u8]>,
-    certificate_length: Option<u64>,
-) -> AskedCommand<'t> {
-    AskedCommand::Verify {
-        trace,
-        effort: SearchEffort {
-            workers: numbers.workers,
-            budget: numbers.budget,
-            rounds: numbers.rounds,
-        },
-        report,
-        certificate_length,
+/// The search of these numbers.
+fn effort_of(numbers: SearchNumbers) -> SearchEffort {
+    SearchEffort {
+        workers: numbers.workers,
+        budget: numbers.budget,
+        rounds: numbers.rounds,
     }
 }
 
 /// Gives what was asked by `verify` or `survey`, or nothing if it was another command.
-fn asked_search<'t>(
-    line: &'t Line<'t>,
-    texts: &'t InputTexts<'t>,
-    report: Option<&'t [u8]>,
-    length: Option<u64>,
-) -> Option<AskedCommand<'t>> {
+fn asked_search<'t>(line: &'t Line<'t>, texts: &'t RunTexts<'t>) -> Option<AskedCommand<'t>> {
     match line {
-        Line::Verify { trace, numbers, .. } => {
-            let trace = named(trace, &texts.first);
-            Some(asked_verify(trace, *numbers, report, length))
-        }
+        Line::Verify { trace, numbers, .. } => Some(AskedCommand::Verify {
+            trace: named(trace, &texts.first),
+            effort: effort_of(*numbers),
+            report: texts.report,
+            certificate_length: texts.certificate_length,
+        }),
         Line::Survey { trace, files, .. } => Some(AskedCommand::Survey {
             trace: named(trace, &texts.first),
             hint: match files.hint {
                 Some(hint) => Some(named(hint, &texts.second)),
                 None => None,
             },
-            report,
+            report: texts.report,
         }),
         Line::Judge { .. }
         | Line::Cnf { .. }
@@ -139,12 +131,7 @@ fn asked_search<'t>(
 
 /// Gives what was asked, with the files that were read for it, or nothing if no command is explained: `batch` and the list of refusals. The order
 /// in which a command reads its files is that in which `engine_runs.rt` keeps them.
-fn asked_command<'t>(
-    line: &'t Line<'t>,
-    texts: &'t InputTexts<'t>,
-    report: Option<&'t [u8]>,
-    length: Option<u64>,
-) -> Option<AskedCommand<'t>> {
+fn asked_command<'t>(line: &'t Line<'t>, texts: &'t RunTexts<'t>) -> Option<AskedCommand<'t>> {
     match line {
         Line::Judge { trace, schedule } => Some(AskedCommand::Judge {
             trace: named(trace, &texts.first),
@@ -173,7 +160,7 @@ fn asked_command<'t>(
             trace: named(trace, &texts.first),
             names: named(names, &texts.second),
         }),
-        _ => asked_search(line, texts, report, length),
+        _ => asked_search(line, texts),
     }
 }
 
@@ -227,9 +214,9 @@ fn notes_of_run<O: Recalls>(
     if kept.is_lost() {
         return notes_of_lost(alloc);
     }
-    let texts = input_texts(alloc, kept);
+    let texts = run_texts(alloc, out, kept);
     let written = failed_writing(alloc, failed, out.failure());
-    let asked = asked_command(ended.line, &texts, out.recalled(), kept.certificate_length);
+    let asked = asked_command(ended.line, &texts);
     notes_of(alloc, asked, ended.outcome, &written)
 }
 

@@ -11,9 +11,9 @@ ghost use Rattle.verdict_report.specs.Runs.{source_run, sink_run};
 
 use crate::asked_gate::AskedGate;
 use crate::asked_text::open_asked;
-use crate::engine_run::EngineRun;
 use crate::inputs::SurveyInputs;
 use crate::kept_run::KeptRun;
+use crate::program_run::ProgramRun;
 use command_host::{Host, SearchRequest};
 use command_line::SurveyFiles;
 use cube_jobs::Gate;
@@ -28,8 +28,8 @@ use verdict_report::{Fault, Source, Status};
 /// What a survey is asked for, and does not change.
 #[derive(Drop)]
 pub(crate) struct AskedSurvey<'a, 'p, R, G> {
-    /// What its engine is given.
-    pub(crate) run: &'a EngineRun<'a, R, G>,
+    /// What the run of the program is given.
+    pub(crate) run: &'a ProgramRun<'a, R, G>,
     /// The files that are read.
     pub(crate) inputs: SurveyInputs<'p>,
     /// The files that are asked for.

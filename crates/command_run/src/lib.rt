@@ -9,7 +9,6 @@ mod batch_runs;
 mod beside;
 mod clash;
 mod command;
-mod engine_run;
 mod engine_runs;
 mod explaining;
 mod formed_runs;

@@ -10,11 +10,11 @@ ghost use Rattle.command_run.specs.CommandRun.{CertifiesSurveyed, RunsSurvey, Ru
 ghost use Rattle.verdict_report.specs.Runs.{sink_run};
 
 use crate::asked_file::{close_asked, make_asked};
-use crate::engine_run::EngineRun;
 use crate::hinted_runs::{AskedSurvey, certify_with, survey_with};
 use crate::inputs::SurveyInputs;
 use crate::kept_run::KeptRun;
 use crate::opening::open;
+use crate::program_run::ProgramRun;
 use command_host::{Host, SearchRequest};
 use command_line::SurveyFiles;
 use cube_jobs::Gate;
@@ -179,7 +179,7 @@ fn takes_none(files: SurveyFiles<'_>) -> bool
 /// Decides whether the trace in the file at this path has a legal schedule, and writes what shows an INCONSISTENT to the files that are
 /// asked for. They are made or opened before the trace is opened, and the hint is opened behind it.
 pub(crate) fn survey_file<'p, R: Threads + Wait + Sync, G: Gate + Sync, H: Host<'p>, W: Sink>(
-    run: &EngineRun<'_, R, G>,
+    run: &ProgramRun<'_, R, G>,
     host: &mut H,
     paths: SurveyPaths<'p>,
     search: &SearchRequest,
