@@ -13,7 +13,7 @@ ghost use Rattle.verdict_report.specs.declared.status.Status.{Status};
 ghost use Rattle.verdict_report.specs.declared.status.Status.TheVariants.{No, Unknown, Yes};
 
 use crate::core_sinks::CoreSinks;
-use cube_jobs::Gate;
+use cube_jobs::{Gate, SearchRun};
 use dimacs::{Sink, SinkFault, write_whole};
 use schedule_text::schedule_reader::read_schedule;
 use std::alloc::Global;
@@ -23,7 +23,7 @@ use survey_verdict::laws::{
     core_certificate_is_accepted, core_names_spell, core_part_is_a_trace, core_part_spells,
 };
 use survey_verdict::{
-    SurveyRun, Surveyed, decide_with_hint, names_of_core, part_of_core, report_of_survey,
+    Surveyed, decide_with_hint, names_of_core, part_of_core, report_of_survey,
     write_survey_certificate,
 };
 use surveyor::Surveyor;
@@ -56,7 +56,7 @@ pub fn run_survey<
     G: Gate + Sync,
     W: Sink,
 >(
-    run: &SurveyRun<'_, R, G>,
+    run: &SearchRun<'_, R, G>,
     surveyor: &S,
     trace: &mut T,
     hint: &mut U,
@@ -108,7 +108,7 @@ pub fn run_certified_survey<
     P: Sink,
     W: Sink,
 >(
-    run: &SurveyRun<'_, R, G>,
+    run: &SearchRun<'_, R, G>,
     surveyor: &S,
     trace: &mut T,
     hint: &mut U,
@@ -167,7 +167,7 @@ pub fn run_certified_survey<
 
 /// Gives what is decided of the trace that one text spells, with the hint that the other spells.
 fn survey_texts<R: Threads + Wait + Sync, S: Surveyor, G: Gate + Sync>(
-    run: &SurveyRun<'_, R, G>,
+    run: &SearchRun<'_, R, G>,
     surveyor: &S,
     text: &[u8],
     hint: &[u8],

@@ -18,7 +18,6 @@ mod short_source;
 mod source;
 mod status;
 mod verify_engine;
-mod verify_run;
 
 pub use cnf_engine::run_cnf;
 pub use decode_engine::run_decode;
@@ -34,4 +33,3 @@ pub use short_source::ShortSource;
 pub use source::Source;
 pub use status::{Status, exit_status};
 pub use verify_engine::{run_certified_verify, run_verify};
-pub use verify_run::VerifyRun;
