@@ -27,12 +27,11 @@ use survey_verdict::{
     write_survey_certificate,
 };
 use surveyor::Surveyor;
-use trace_decision::Decision;
 use trace_decision::laws::certificate_is_accepted;
 use trace_semantics::trace_size::limits_for;
 use trace_text::trace_reader::read_trace;
 use verdict_report::laws::written_schedule_spells;
-use verdict_report::{Fault, Source, Status, read_two};
+use verdict_report::{Fault, Source, Status, read_two, status_of as status_of_decision};
 
 /// Decides whether the trace that the source hands out, of whatever length a trace may have, has a legal schedule, and writes the report:
 /// CONSISTENT and a legal schedule of the whole trace, which was judged or is one by the search of the whole; INCONSISTENT and the names
@@ -186,9 +185,7 @@ fn status_of(surveyed: &Surveyed) -> Status
     ensures { result ≡ status_of_survey surveyed.now }
 {
     match surveyed {
-        Surveyed::Decided(Decision::Consistent(_)) => Status::Yes,
-        Surveyed::Decided(Decision::Inconsistent(_)) => Status::No,
-        Surveyed::Decided(Decision::Unknown(_)) => Status::Unknown,
+        Surveyed::Decided(decision) => status_of_decision(decision),
         Surveyed::Refuted(_) => Status::No,
         Surveyed::Reasoned(_) => Status::No,
         Surveyed::Undecided(_) => Status::Unknown,

@@ -108,7 +108,7 @@ fn decide_text<R: Threads + Wait + Sync, G: Gate + Sync>(
 }
 
 /// The status that goes with a decision.
-fn status_of(decision: &Decision) -> Status
+pub fn status_of(decision: &Decision) -> Status
     ensures { result ≡ status_of_decision decision.now }
 {
     match decision {
