@@ -13,7 +13,7 @@ use reducer::reduced::{Reduced, reduce};
 use std::alloc::Global;
 use std::sync::Wait;
 use std::thread::Threads;
-use survey_verdict::{SurveyRun, decide_by_survey};
+use survey_verdict::decide_unwatched;
 use surveyor::Surveyor;
 use text_lines::fault::PlacedFault;
 use text_lines::plain_fault::PlainFault;
@@ -58,13 +58,7 @@ fn verdict_by_survey<R: Threads + Wait + Sync, S: Surveyor>(
 ) -> PieceVerdict
     ensures { IsVerdictOf trace.now result }
 {
-    let run = SurveyRun {
-        alloc,
-        rt,
-        options,
-        gate: &OpenGate,
-    };
-    match decide_by_survey(&run, trace, &[], surveyor) {
+    match decide_unwatched(alloc, rt, trace, options, surveyor) {
         Ok(surveyed) => verdict_of_surveyed(&surveyed),
         Err(fault) => PieceVerdict::Refused(refusal_of_search(fault)),
     }

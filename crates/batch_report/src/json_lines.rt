@@ -100,12 +100,18 @@ fn push_refusal(alloc: Global, text: &mut Vec<u8>, fault: &Fault) -> Result<(), 
     }
 }
 
-/// Appends the word of an INCONSISTENT and the number of cubes.
-fn push_refuted(alloc: Global, text: &mut Vec<u8>, cubes: u32) -> Result<(), AllocError>
-    ensures { OnOk result (text.new.items ≡ text.old.items ++ (codes "\"INCONSISTENT\"" ++ member (codes "cubes") cubes)) }
+/// Appends the word of a verdict and a number.
+fn push_counted(
+    alloc: Global,
+    text: &mut Vec<u8>,
+    word: &str,
+    name: &str,
+    number: usize,
+) -> Result<(), AllocError>
+    ensures { OnOk result (text.new.items ≡ text.old.items ++ (word.now ++ member name.now number)) }
 {
-    let line = format!(in alloc; "\"INCONSISTENT\",\"cubes\":{cubes}")?;
-    text.extend_from_slice(line.as_bytes())
+    text.extend_from_slice(word.as_bytes())?;
+    push_number(alloc, text, name, number)
 }
 
 /// Appends the word of an INCONSISTENT and two numbers.
@@ -118,31 +124,8 @@ fn push_inconsistent(
 ) -> Result<(), AllocError>
     ensures { OnOk result (text.new.items ≡ text.old.items ++ (codes "\"INCONSISTENT\"" ++ (member (codes "operations") operations ++ member name.now number))) }
 {
-    let line = format!(in alloc;
-        "\"INCONSISTENT\",\"operations\":{operations},\"{name}\":{number}"
-    )?;
-    text.extend_from_slice(line.as_bytes())
-}
-
-/// Appends the word of an UNKNOWN and the number of open cubes.
-fn push_open(alloc: Global, text: &mut Vec<u8>, left: usize) -> Result<(), AllocError>
-    ensures { OnOk result (text.new.items ≡ text.old.items ++ (codes "\"UNKNOWN\"" ++ member (codes "open") left)) }
-{
-    let line = format!(in alloc; "\"UNKNOWN\",\"open\":{left}")?;
-    text.extend_from_slice(line.as_bytes())
-}
-
-/// Appends the word of an UNKNOWN and how far its survey came.
-fn push_undecided(
-    alloc: Global,
-    text: &mut Vec<u8>,
-    placed: u32,
-    undecided: u32,
-) -> Result<(), AllocError>
-    ensures { OnOk result (text.new.items ≡ text.old.items ++ (codes "\"UNKNOWN\"" ++ (member (codes "placed") placed ++ member (codes "undecided") undecided))) }
-{
-    let line = format!(in alloc; "\"UNKNOWN\",\"placed\":{placed},\"undecided\":{undecided}")?;
-    text.extend_from_slice(line.as_bytes())
+    push_counted(alloc, text, "\"INCONSISTENT\"", "operations", operations)?;
+    push_number(alloc, text, name, number)
 }
 
 /// Appends the word of a refusal and its object.
@@ -159,7 +142,13 @@ fn push_verdict(alloc: Global, text: &mut Vec<u8>, verdict: &PieceVerdict) -> Re
 {
     match verdict {
         PieceVerdict::Consistent => text.extend_from_slice(b"\"CONSISTENT\""),
-        PieceVerdict::Refuted { cubes } => push_refuted(alloc, text, *cubes),
+        PieceVerdict::Refuted { cubes } => push_counted(
+            alloc,
+            text,
+            "\"INCONSISTENT\"",
+            "cubes",
+            *cubes as usize,
+        ),
         PieceVerdict::RefutedCore { operations, cubes } => push_inconsistent(
             alloc,
             text,
@@ -171,10 +160,11 @@ fn push_verdict(alloc: Global, text: &mut Vec<u8>, verdict: &PieceVerdict) -> Re
             operations,
             reasons,
         } => push_inconsistent(alloc, text, *operations, "reasons", *reasons),
-        PieceVerdict::Open { left } => push_open(alloc, text, *left),
-        PieceVerdict::Undecided { placed, undecided } => push_undecided(
-            alloc, text, *placed, *undecided,
-        ),
+        PieceVerdict::Open { left } => push_counted(alloc, text, "\"UNKNOWN\"", "open", *left),
+        PieceVerdict::Undecided { placed, undecided } => {
+            push_counted(alloc, text, "\"UNKNOWN\"", "placed", *placed as usize)?;
+            push_number(alloc, text, "undecided", *undecided as usize)
+        }
         PieceVerdict::Refused(fault) => push_refused(alloc, text, fault),
     }
 }

@@ -1,9 +1,7 @@
 //! The lines of a batch in the plain form.
 
-ghost use Rattle.std.specs.Prelude.{◌≡◌, ◌++◌, OnOk, codes, decimal};
-ghost use Rattle.batch_report.specs.BatchLines.{batch_line, place_text, verdict_line};
-ghost use Rattle.survey_verdict.specs.Surveyed.{core_line, extent_line, reasons_line};
-ghost use Rattle.trace_decision.specs.Decision.{unknown_line};
+ghost use Rattle.std.specs.Prelude.{◌≡◌, ◌++◌, IfOk, OnOk, codes, decimal};
+ghost use Rattle.batch_report.specs.BatchLines.{batch_line, verdict_line};
 ghost use Rattle.verdict_report.specs.Fault.{line_of};
 
 use crate::piece_verdict::PieceVerdict;
@@ -11,112 +9,80 @@ use dimacs::MemorySink;
 use std::alloc::{AllocError, Global};
 use verdict_report::{Fault, write_fault};
 
-/// Appends the line of a refutation.
-fn push_refuted(alloc: Global, text: &mut Vec<u8>, cubes: u32) -> Result<(), AllocError>
-    ensures { OnOk result (text.new.items ≡ text.old.items ++ (codes "INCONSISTENT cubes=" ++ (decimal cubes ++ codes "\n"))) }
+/// The line that ends with this number.
+fn line_of_count(alloc: Global, front: &str, count: usize) -> Result<Vec<u8>, AllocError>
+    ensures { IfOk result (λ line. line.items ≡ front.now ++ (decimal count ++ codes "\n")) }
 {
-    let line = format!(in alloc; "INCONSISTENT cubes={cubes}\n")?;
-    text.extend_from_slice(line.as_bytes())
+    let line = format!(in alloc; "{front}{count}\n")?;
+    Ok(line.into_bytes())
 }
 
-/// Appends the line of a core.
-fn push_core(
+/// The line that ends with these numbers, with a text between the two.
+fn line_of_counts(
     alloc: Global,
-    text: &mut Vec<u8>,
-    operations: usize,
-    cubes: u32,
-) -> Result<(), AllocError>
-    ensures { OnOk result (text.new.items ≡ text.old.items ++ core_line operations cubes) }
+    front: &str,
+    first: usize,
+    between: &str,
+    second: usize,
+) -> Result<Vec<u8>, AllocError>
+    ensures { IfOk result (λ line. line.items ≡ front.now ++ (decimal first ++ (between.now ++ (decimal second ++ codes "\n")))) }
 {
-    let line = format!(in alloc; "INCONSISTENT operations={operations} cubes={cubes}\n")?;
-    text.extend_from_slice(line.as_bytes())
+    let line = format!(in alloc; "{front}{first}{between}{second}\n")?;
+    Ok(line.into_bytes())
 }
 
-/// Appends the line of a certificate of reasons.
-fn push_reasoned(
-    alloc: Global,
-    text: &mut Vec<u8>,
-    operations: usize,
-    reasons: usize,
-) -> Result<(), AllocError>
-    ensures { OnOk result (text.new.items ≡ text.old.items ++ reasons_line operations reasons) }
-{
-    let line = format!(in alloc; "INCONSISTENT operations={operations} reasons={reasons}\n")?;
-    text.extend_from_slice(line.as_bytes())
-}
-
-/// Appends the line of open cubes.
-fn push_open(alloc: Global, text: &mut Vec<u8>, left: usize) -> Result<(), AllocError>
-    ensures { OnOk result (text.new.items ≡ text.old.items ++ unknown_line left) }
-{
-    let line = format!(in alloc; "UNKNOWN open={left}\n")?;
-    text.extend_from_slice(line.as_bytes())
-}
-
-/// Appends the line of a survey that shows nothing.
-fn push_undecided(
-    alloc: Global,
-    text: &mut Vec<u8>,
-    placed: u32,
-    undecided: u32,
-) -> Result<(), AllocError>
-    ensures { OnOk result (text.new.items ≡ text.old.items ++ (codes "UNKNOWN placed=" ++ (decimal placed ++ (codes " undecided=" ++ (decimal undecided ++ codes "\n"))))) }
-{
-    let line = format!(in alloc; "UNKNOWN placed={placed} undecided={undecided}\n")?;
-    text.extend_from_slice(line.as_bytes())
-}
-
-/// Appends the line of a refusal.
-fn push_refusal(alloc: Global, text: &mut Vec<u8>, fault: &Fault) -> Result<(), AllocError>
-    ensures { OnOk result (text.new.items ≡ text.old.items ++ line_of fault.now) }
+/// The line of a refusal.
+fn line_of_refusal(alloc: Global, fault: &Fault) -> Result<Vec<u8>, AllocError>
+    ensures { IfOk result (λ line. line.items ≡ line_of fault.now) }
 {
     let mut line = MemorySink::new(alloc);
     match write_fault(fault, &mut line) {
-        Ok(()) => text.extend_from_slice(line.as_slice()),
+        Ok(()) => Vec::from_slice(alloc, line.as_slice()),
         Err(_) => Err(AllocError),
     }
 }
 
-/// Appends what is said of a piece, with a line feed.
-fn push_verdict(alloc: Global, text: &mut Vec<u8>, verdict: &PieceVerdict) -> Result<(), AllocError>
-    ensures { OnOk result (text.new.items ≡ text.old.items ++ verdict_line verdict.now) }
+/// The line that says what is found of a piece.
+fn line_of_verdict(alloc: Global, verdict: &PieceVerdict) -> Result<Vec<u8>, AllocError>
+    ensures { IfOk result (λ line. line.items ≡ verdict_line verdict.now) }
 {
     match verdict {
-        PieceVerdict::Consistent => text.extend_from_slice(b"CONSISTENT\n"),
-        PieceVerdict::Refuted { cubes } => push_refuted(alloc, text, *cubes),
-        PieceVerdict::RefutedCore { operations, cubes } => push_core(
+        PieceVerdict::Consistent => Vec::from_slice(alloc, b"CONSISTENT\n"),
+        PieceVerdict::Refuted { cubes } => line_of_count(
             alloc,
-            text,
+            "INCONSISTENT cubes=",
+            *cubes as usize,
+        ),
+        PieceVerdict::RefutedCore { operations, cubes } => line_of_counts(
+            alloc,
+            "INCONSISTENT operations=",
             *operations,
-            *cubes,
+            " cubes=",
+            *cubes as usize,
         ),
         PieceVerdict::Reasoned {
             operations,
             reasons,
-        } => push_reasoned(alloc, text, *operations, *reasons),
-        PieceVerdict::Open { left } => push_open(alloc, text, *left),
-        PieceVerdict::Undecided { placed, undecided } => push_undecided(
-            alloc, text, *placed, *undecided,
+        } => line_of_counts(
+            alloc,
+            "INCONSISTENT operations=",
+            *operations,
+            " reasons=",
+            *reasons,
         ),
-        PieceVerdict::Refused(fault) => push_refusal(alloc, text, fault),
+        PieceVerdict::Open { left } => line_of_count(alloc, "UNKNOWN open=", *left),
+        PieceVerdict::Undecided { placed, undecided } => line_of_counts(
+            alloc,
+            "UNKNOWN placed=",
+            *placed as usize,
+            " undecided=",
+            *undecided as usize,
+        ),
+        PieceVerdict::Refused(fault) => line_of_refusal(alloc, fault),
     }
 }
 
-/// Appends where the piece stands: the file and its number there.
-fn push_place(
-    alloc: Global,
-    text: &mut Vec<u8>,
-    file: &str,
-    number: usize,
-) -> Result<(), AllocError>
-    ensures { OnOk result (text.new.items ≡ text.old.items ++ place_text file.now number) }
-{
-    text.extend_from_slice(file.as_bytes())?;
-    let place = format!(in alloc; ":{number} ")?;
-    text.extend_from_slice(place.as_bytes())
-}
-
-/// Appends the line of a piece.
+/// Appends the line of a piece: the file, the number of the piece there, and what is said of it.
 pub(crate) fn push_plain(
     alloc: Global,
     text: &mut Vec<u8>,
@@ -126,6 +92,8 @@ pub(crate) fn push_plain(
 ) -> Result<(), AllocError>
     ensures { OnOk result (text.new.items ≡ text.old.items ++ batch_line file.now number verdict.now) }
 {
-    push_place(alloc, text, file, number)?;
-    push_verdict(alloc, text, verdict)
+    let place = format!(in alloc; "{file}:{number} ")?;
+    text.extend_from_slice(place.as_bytes())?;
+    let line = line_of_verdict(alloc, verdict)?;
+    text.extend_from_slice(line.as_slice())
 }

@@ -23,10 +23,7 @@ pub struct VerdictTally {
 fn is_device(fault: &Fault) -> bool
     ensures { result ≡ is_device fault.now }
 {
-    match fault {
-        Fault::Device => true,
-        _ => false,
-    }
+    matches!(fault, Fault::Device)
 }
 
 /// Returns whether a device failed.
@@ -43,23 +40,22 @@ fn is_failure(verdict: &PieceVerdict) -> bool
 fn is_no(verdict: &PieceVerdict) -> bool
     ensures { result ≡ is_no verdict.now }
 {
-    match verdict {
-        PieceVerdict::Refuted { .. } => true,
-        PieceVerdict::RefutedCore { .. } => true,
-        PieceVerdict::Reasoned { .. } => true,
-        _ => false,
-    }
+    matches!(
+        verdict,
+        PieceVerdict::Refuted { .. }
+            | PieceVerdict::RefutedCore { .. }
+            | PieceVerdict::Reasoned { .. }
+    )
 }
 
 /// Returns whether the trace is not decided.
 fn is_unknown(verdict: &PieceVerdict) -> bool
     ensures { result ≡ is_unknown verdict.now }
 {
-    match verdict {
-        PieceVerdict::Open { .. } => true,
-        PieceVerdict::Undecided { .. } => true,
-        _ => false,
-    }
+    matches!(
+        verdict,
+        PieceVerdict::Open { .. } | PieceVerdict::Undecided { .. }
+    )
 }
 
 /// The refusal of the piece, if it is refused.

@@ -23,15 +23,15 @@ use crate::search_runs::{search_of, survey_of};
 use crate::survey_runs::{SurveyPaths, survey_file};
 use command_host::{Host, Recorder, SearchRequest};
 use command_line::Line;
-use cube_jobs::Gate;
+use cube_jobs::{Gate, SearchRun};
 use dimacs::Sink;
 use part_report::{run_part, run_part_recheck};
 use std::alloc::Global;
 use std::sync::Wait;
 use std::thread::Threads;
 use verdict_report::{
-    Fault, Status, VerifyRun, run_certified_verify, run_cnf, run_decode, run_judge, run_lrat,
-    run_recheck, run_verify,
+    Fault, Status, run_certified_verify, run_cnf, run_decode, run_judge, run_lrat, run_recheck,
+    run_verify,
 };
 
 /// The files of a certificate that is checked for a part.
@@ -242,7 +242,7 @@ fn certify_file<'p, R: Threads + Wait + Sync, G: Gate + Sync, H: Host<'p>, W: Si
     let mut file = Recorder::counting(run.alloc, file);
     host.begin_search(search);
     let gate = AskedGate::new(run.progress, search.tells_progress);
-    let verify = VerifyRun {
+    let verify = SearchRun {
         alloc: run.alloc,
         rt: run.rt,
         options: &search.options,

@@ -16,13 +16,12 @@ use crate::kept_run::KeptRun;
 use crate::program_run::ProgramRun;
 use command_host::{Host, SearchRequest};
 use command_line::SurveyFiles;
-use cube_jobs::Gate;
+use cube_jobs::{Gate, SearchRun};
 use dimacs::Sink;
 use std::sync::Wait;
 use std::thread::Threads;
 use survey::BySaturation;
 use survey_report::{CoreSinks, run_certified_survey, run_survey};
-use survey_verdict::SurveyRun;
 use verdict_report::{Fault, Source, Status};
 
 /// What a survey is asked for, and does not change.
@@ -69,7 +68,7 @@ pub(crate) fn survey_with<
     host.begin_search(asked.search);
     let surveyor = surveyor_of(asked.search);
     let gate = AskedGate::new(asked.run.progress, asked.search.tells_progress);
-    let run = SurveyRun {
+    let run = SearchRun {
         alloc: asked.run.alloc,
         rt: asked.run.rt,
         options: &asked.search.options,
@@ -116,7 +115,7 @@ pub(crate) fn certify_with<
     host.begin_search(asked.search);
     let surveyor = surveyor_of(asked.search);
     let gate = AskedGate::new(asked.run.progress, asked.search.tells_progress);
-    let run = SurveyRun {
+    let run = SearchRun {
         alloc: asked.run.alloc,
         rt: asked.run.rt,
         options: &asked.search.options,

@@ -13,7 +13,9 @@ use schedule_text::schedule_reader::read_schedule;
 use std::alloc::Global;
 use trace_semantics::trace_size::limits_for;
 use trace_text::trace_reader::read_trace;
-use verdict_report::{Fault, Source, Status, read_three, recheck_reduced, write_count};
+use verdict_report::{
+    CertificateSize, Fault, Source, Status, read_three, recheck_reduced, write_size,
+};
 
 /// Checks that the certificate of the second source shows that the part of the trace of the first source which the operations make up
 /// that the third source names has no legal schedule, and writes `ACCEPTED` and how many cubes its tree has, as one line. The answer is
@@ -49,7 +51,7 @@ pub fn run_part_recheck<T: Source, C: Source, N: Source, W: Sink>(
         cert_text,
         names_text.as_slice(),
     )?;
-    write_count(alloc, count, out)
+    write_size(alloc, CertificateSize::Cubes(count), out)
 }
 
 /// Of how many cubes the certificate is that the second text spells, and that refutes the part of the trace of the first. The order of the

@@ -7,7 +7,7 @@ use reducer::reduced::{Reduced, reduce};
 use std::alloc::{AllocError, Global};
 use std::sync::Wait;
 use std::thread::Threads;
-use survey_verdict::{SurveyRun, Surveyed, decide_by_survey};
+use survey_verdict::{Surveyed, decide_unwatched};
 use surveyor::Surveyor;
 use text_lines::fault::PlacedFault;
 use text_lines::plain_fault::PlainFault;
@@ -51,13 +51,7 @@ fn decide_long<R: Threads + Wait + Sync, S: Surveyor>(
 ) -> Result<Option<Surveyed>, AllocError>
     ensures { IfOk result (λ found. IfSome found (IsShown trace.now)) }
 {
-    let run = SurveyRun {
-        alloc,
-        rt,
-        options,
-        gate: &OpenGate,
-    };
-    match decide_by_survey(&run, trace, &[], surveyor) {
+    match decide_unwatched(alloc, rt, trace, options, surveyor) {
         Ok(surveyed) => Ok(Some(surveyed)),
         Err(PlainFault::OutOfMemory) => Err(AllocError),
         Err(PlainFault::For(_)) => Ok(None),

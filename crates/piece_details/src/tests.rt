@@ -31,49 +31,53 @@ fn found<R: Threads + Wait + Sync>(
     details_of(alloc, rt, text, &search, true).ok()?
 }
 
-/// The members that say them.
-fn members(alloc: Global, details: &PieceDetails) -> Option<Vec<u8>> {
-    let mut text = Vec::new(alloc);
-    push_members(alloc, &mut text, details).ok()?;
-    Some(text)
+/// The details of a trace, and the members that say them.
+#[derive(Drop)]
+struct Said {
+    details: PieceDetails,
+    members: Vec<u8>,
+}
+
+/// What is said of the trace in this text, by a search with this budget.
+fn said<R: Threads + Wait + Sync>(alloc: Global, rt: &R, text: &[u8], budget: u64) -> Option<Said> {
+    let details = found(alloc, rt, text, budget)?;
+    let mut members = Vec::new(alloc);
+    push_members(alloc, &mut members, &details).ok()?;
+    Some(Said { details, members })
 }
 
 #[test]
 fn schedule_of_a_consistent_trace(rt: HostRuntime) {
-    let Some(details) = found(rt.alloc(), &rt, HAND_OFF, 100_000) else {
+    let Some(said) = said(rt.alloc(), &rt, HAND_OFF, 100_000) else {
         return;
     };
-    let Some(text) = members(rt.alloc(), &details) else {
-        return;
-    };
-    assert!(rt; text.as_slice() == b",\"schedule\":[\"P.1\",\"Q.1\"]".as_slice());
-    assert!(rt; details.certificate.is_empty() && details.picture.is_empty());
+    assert!(rt; said.members.as_slice() == b",\"schedule\":[\"P.1\",\"Q.1\"]".as_slice());
+    assert!(rt; said.details.certificate.is_empty() && said.details.picture.is_empty());
 }
 
 #[test]
 fn why_of_an_inconsistent_trace(rt: HostRuntime) {
-    let Some(details) = found(rt.alloc(), &rt, STORE_BUFFERING, 100_000) else {
+    let Some(said) = said(rt.alloc(), &rt, STORE_BUFFERING, 100_000) else {
         return;
     };
-    let Some(text) = members(rt.alloc(), &details) else {
-        return;
-    };
-    assert!(rt; text.as_slice().starts_with(b",\"why\":[\""));
-    assert!(rt; text.as_slice().ends_with(b"\"]"));
-    assert!(rt; details.certificate.as_slice().starts_with(b"vsc-cert 1\n"));
-    assert!(rt; details.names.is_empty());
-    assert!(rt; details.picture.as_slice().starts_with(b"<?xml"));
+    assert!(rt; said.members.as_slice().starts_with(b",\"why\":[\""));
+    assert!(rt; said.members.as_slice().ends_with(b"\"]"));
+    assert!(rt;
+        said.details
+            .certificate
+            .as_slice()
+            .starts_with(b"vsc-cert 1\n")
+    );
+    assert!(rt; said.details.names.is_empty());
+    assert!(rt; said.details.picture.as_slice().starts_with(b"<?xml"));
 }
 
 #[test]
 fn cubes_of_an_open_trace(rt: HostRuntime) {
-    let Some(details) = found(rt.alloc(), &rt, STORE_BUFFERING, 0) else {
+    let Some(said) = said(rt.alloc(), &rt, STORE_BUFFERING, 0) else {
         return;
     };
-    let Some(text) = members(rt.alloc(), &details) else {
-        return;
-    };
-    assert!(rt; text.as_slice() == b",\"open_cubes\":[[3],[-3]]".as_slice());
+    assert!(rt; said.members.as_slice() == b",\"open_cubes\":[[3],[-3]]".as_slice());
 }
 
 #[test]

@@ -8,7 +8,9 @@ use crate::proof_notes::explain_step;
 use crate::swapped::{bytes_of, note_swapped};
 use crate::text_kinds::TextKind;
 use crate::trace_notes::explain_trace;
+use cnf_text::CnfCause;
 use cube_jobs::SearchCause;
+use lrat_check::lrat_fault::LratCause;
 use model_text::ModelCause;
 use note_text::{AskedTexts, NamedText, Notes, count_words, decimal, line_of_text, word_at};
 use reason_clauses::cause::ReasonCause;
@@ -207,75 +209,21 @@ fn explain_reasons(notes: &mut Notes, cause: ReasonCause, number: u64, texts: &A
     notes.note(&[cause.meaning().as_bytes()]);
 }
 
-/// Adds why a file of a command about clauses and proofs was refused.
-fn explain_proofs(
-    alloc: Global,
-    notes: &mut Notes,
-    fault: &Fault,
-    texts: &AskedTexts<'_>,
-) -> Result<(), AllocError> {
-    match fault {
-        Fault::Model(cause, line) => explain_model(notes, *cause, *line as u64, texts),
-        Fault::Cnf(cause, line) => {
-            explain_line(
-                notes,
-                cause,
-                *line as u64,
-                &texts.cnf,
-                TextKind::Formula,
-                texts,
-            )
-        }
-        Fault::Lrat(cause, line) => {
-            explain_line(
-                notes,
-                cause,
-                *line as u64,
-                &texts.proof,
-                TextKind::Derivation,
-                texts,
-            )
-        }
-        Fault::Check(cause, step) => explain_step(alloc, notes, *cause, *step as u64, texts)?,
-        Fault::Cert(cause, place) => explain_certificate(
-            alloc,
-            notes,
-            *cause,
-            *place as u64,
-            texts,
-        )?,
-        Fault::Reasons(cause, line) => explain_reasons(notes, *cause, *line as u64, texts),
-        // The callers have explained these. They are named, so that a new fault needs a branch here.
-        Fault::OutOfMemory
-        | Fault::Device
-        | Fault::InputTooLong
-        | Fault::Trace(..)
-        | Fault::Schedule(..)
-        | Fault::Part(..)
-        | Fault::Reduce(..)
-        | Fault::Decode(..)
-        | Fault::Search(..) => {}
-    }
-    Ok(())
+/// Adds why a formula was refused at this line.
+fn explain_formula(notes: &mut Notes, cause: &CnfCause, number: u64, texts: &AskedTexts<'_>) {
+    explain_line(notes, cause, number, &texts.cnf, TextKind::Formula, texts);
 }
 
-/// Adds why an engine gave up: it lacked something, or could not go on with what the texts spell.
-fn explain_giving_up(
-    alloc: Global,
-    notes: &mut Notes,
-    fault: &Fault,
-    texts: &AskedTexts<'_>,
-) -> Result<(), AllocError> {
-    match fault {
-        Fault::OutOfMemory => explain_memory(notes),
-        Fault::Device => explain_device(notes, texts),
-        Fault::InputTooLong => explain_length(notes),
-        Fault::Reduce(cause, left) => explain_reduction(notes, *cause, *left as u64),
-        Fault::Decode(cause, clause) => explain_decoding(notes, *cause, *clause as u64),
-        Fault::Search(cause) => explain_search(notes, *cause),
-        _ => explain_proofs(alloc, notes, fault, texts)?,
-    }
-    Ok(())
+/// Adds why a derivation was refused at this line.
+fn explain_derivation(notes: &mut Notes, cause: &LratCause, number: u64, texts: &AskedTexts<'_>) {
+    explain_line(
+        notes,
+        cause,
+        number,
+        &texts.proof,
+        TextKind::Derivation,
+        texts,
+    );
 }
 
 /// Adds notes on a refusal: the line as it stands in its file, what was expected there, and what was probably meant.
@@ -286,10 +234,23 @@ pub fn explain_refusal(
     texts: &AskedTexts<'_>,
 ) -> Result<(), AllocError> {
     match fault {
+        Fault::OutOfMemory => explain_memory(notes),
+        Fault::Device => explain_device(notes, texts),
+        Fault::InputTooLong => explain_length(notes),
         Fault::Trace(cause, line) => explain_trace(alloc, notes, *cause, *line as u64, texts),
         Fault::Schedule(cause, line) => explain_schedule(notes, *cause, *line as u64, texts),
         Fault::Part(cause, line) => explain_part(alloc, notes, *cause, *line as u64, texts),
-        _ => explain_giving_up(alloc, notes, fault, texts)?,
+        Fault::Model(cause, line) => explain_model(notes, *cause, *line as u64, texts),
+        Fault::Cnf(cause, line) => explain_formula(notes, cause, *line as u64, texts),
+        Fault::Lrat(cause, line) => explain_derivation(notes, cause, *line as u64, texts),
+        Fault::Reasons(cause, line) => explain_reasons(notes, *cause, *line as u64, texts),
+        Fault::Reduce(cause, left) => explain_reduction(notes, *cause, *left as u64),
+        Fault::Decode(cause, clause) => explain_decoding(notes, *cause, *clause as u64),
+        Fault::Search(cause) => explain_search(notes, *cause),
+        Fault::Check(cause, step) => explain_step(alloc, notes, *cause, *step as u64, texts)?,
+        Fault::Cert(cause, place) => {
+            explain_certificate(alloc, notes, *cause, *place as u64, texts)?
+        }
     }
     Ok(())
 }

@@ -13,7 +13,7 @@ ghost use Rattle.verdict_report.specs.declared.status.Status.{Status};
 ghost use Rattle.verdict_report.specs.declared.status.Status.TheVariants.{No, Unknown, Yes};
 
 use crate::core_sinks::CoreSinks;
-use cube_jobs::Gate;
+use cube_jobs::{Gate, SearchRun};
 use dimacs::{Sink, SinkFault, write_whole};
 use schedule_text::schedule_reader::read_schedule;
 use std::alloc::Global;
@@ -23,16 +23,15 @@ use survey_verdict::laws::{
     core_certificate_is_accepted, core_names_spell, core_part_is_a_trace, core_part_spells,
 };
 use survey_verdict::{
-    SurveyRun, Surveyed, decide_with_hint, names_of_core, part_of_core, report_of_survey,
+    Surveyed, decide_with_hint, names_of_core, part_of_core, report_of_survey,
     write_survey_certificate,
 };
 use surveyor::Surveyor;
-use trace_decision::Decision;
 use trace_decision::laws::certificate_is_accepted;
 use trace_semantics::trace_size::limits_for;
 use trace_text::trace_reader::read_trace;
 use verdict_report::laws::written_schedule_spells;
-use verdict_report::{Fault, Source, Status, read_two};
+use verdict_report::{Fault, Source, Status, read_two, status_of as status_of_decision};
 
 /// Decides whether the trace that the source hands out, of whatever length a trace may have, has a legal schedule, and writes the report:
 /// CONSISTENT and a legal schedule of the whole trace, which was judged or is one by the search of the whole; INCONSISTENT and the names
@@ -56,7 +55,7 @@ pub fn run_survey<
     G: Gate + Sync,
     W: Sink,
 >(
-    run: &SurveyRun<'_, R, G>,
+    run: &SearchRun<'_, R, G>,
     surveyor: &S,
     trace: &mut T,
     hint: &mut U,
@@ -108,7 +107,7 @@ pub fn run_certified_survey<
     P: Sink,
     W: Sink,
 >(
-    run: &SurveyRun<'_, R, G>,
+    run: &SearchRun<'_, R, G>,
     surveyor: &S,
     trace: &mut T,
     hint: &mut U,
@@ -167,7 +166,7 @@ pub fn run_certified_survey<
 
 /// Gives what is decided of the trace that one text spells, with the hint that the other spells.
 fn survey_texts<R: Threads + Wait + Sync, S: Surveyor, G: Gate + Sync>(
-    run: &SurveyRun<'_, R, G>,
+    run: &SearchRun<'_, R, G>,
     surveyor: &S,
     text: &[u8],
     hint: &[u8],
@@ -186,9 +185,7 @@ fn status_of(surveyed: &Surveyed) -> Status
     ensures { result ≡ status_of_survey surveyed.now }
 {
     match surveyed {
-        Surveyed::Decided(Decision::Consistent(_)) => Status::Yes,
-        Surveyed::Decided(Decision::Inconsistent(_)) => Status::No,
-        Surveyed::Decided(Decision::Unknown(_)) => Status::Unknown,
+        Surveyed::Decided(decision) => status_of_decision(decision),
         Surveyed::Refuted(_) => Status::No,
         Surveyed::Reasoned(_) => Status::No,
         Surveyed::Undecided(_) => Status::Unknown,

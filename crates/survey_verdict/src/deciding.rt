@@ -14,11 +14,10 @@ ghost use Rattle.trace_semantics.specs.Legal.{HasNoSchedule};
 ghost use Rattle.trace_semantics.specs.Trace.{operation_count};
 
 use crate::core_names::{all_names, names_among};
-use crate::extent::{count_operations, within_trace};
+use crate::extent::within_trace;
 use crate::named_operations::named_operations;
-use crate::survey_run::SurveyRun;
 use crate::surveyed::{ReasonCertificate, RefutedCore, Surveyed};
-use cube_jobs::{Gate, SearchFault, Stage};
+use cube_jobs::{Gate, OpenGate, Options, SearchFault, SearchRun, Stage};
 use reason_check::reasons_check::check_reasons;
 use reason_check::reasons_fault::ReasonsFault;
 use reducer::reduced::{Reduced, reduce};
@@ -36,6 +35,7 @@ use trace_semantics::laws::{legal_exactly_where_faultless, one_judgement};
 use trace_semantics::operation::OpName;
 use trace_semantics::schedule::Schedule;
 use trace_semantics::trace::Trace;
+use trace_semantics::trace_size::count_operations;
 
 /// The most operations of a certificate of reasons whose names are shown.
 const MAX_NAMED: usize = 64;
@@ -67,7 +67,7 @@ fn reduced_if_small(alloc: Global, trace: &Trace) -> Result<Option<Reduced>, All
 
 /// Decides whether the whole trace has a legal schedule, between the two calls of the gate for this stage.
 fn decide_in_stage<R: Threads + Wait + Sync, G: Gate + Sync>(
-    run: &SurveyRun<'_, R, G>,
+    run: &SearchRun<'_, R, G>,
     reduced: &Reduced,
     stage: Stage,
 ) -> Result<Decision, SearchFault>
@@ -81,7 +81,7 @@ fn decide_in_stage<R: Threads + Wait + Sync, G: Gate + Sync>(
 
 /// Gives what the search of this stage decides of the trace, if few enough operations are left of it.
 fn decided_if_short<R: Threads + Wait + Sync, G: Gate + Sync>(
-    run: &SurveyRun<'_, R, G>,
+    run: &SearchRun<'_, R, G>,
     trace: &Trace,
     stage: Stage,
 ) -> Result<Option<Decision>, SearchFault>
@@ -110,7 +110,7 @@ fn refutation_of(decision: Decision) -> Option<Refutation>
 
 /// Gives what shows that the trace of a core has no legal schedule, if few enough operations are left of it and the search refutes it.
 fn refuted<R: Threads + Wait + Sync, G: Gate + Sync>(
-    run: &SurveyRun<'_, R, G>,
+    run: &SearchRun<'_, R, G>,
     trace: &Trace,
 ) -> Result<Option<Refutation>, SearchFault>
     ensures { IfOk result (IsRefutedIfShort run.now.options.now trace.now) }
@@ -139,7 +139,7 @@ fn part_in_order(alloc: Global, trace: &Trace, names: &[OpName]) -> Result<Trace
 
 /// The core of those operations of the trace that were found, if the search refutes their part.
 fn refuted_core<R: Threads + Wait + Sync, G: Gate + Sync>(
-    run: &SurveyRun<'_, R, G>,
+    run: &SearchRun<'_, R, G>,
     trace: &Trace,
     found: &[OpName],
 ) -> Result<Option<RefutedCore>, SearchFault>
@@ -163,7 +163,7 @@ fn refuted_core<R: Threads + Wait + Sync, G: Gate + Sync>(
 /// All operations as a core, if the search refutes the part that they make up. Else what refutes the trace itself: the part of all says
 /// less than the trace where a before pair goes back in one process, or an origin does not write.
 fn core_of_all<R: Threads + Wait + Sync, G: Gate + Sync>(
-    run: &SurveyRun<'_, R, G>,
+    run: &SearchRun<'_, R, G>,
     trace: &Trace,
     refutation: Refutation,
 ) -> Result<Surveyed, SearchFault>
@@ -181,7 +181,7 @@ fn core_of_all<R: Threads + Wait + Sync, G: Gate + Sync>(
 
 /// Gives what is said of the whole trace, of which this is decided.
 fn said_of_whole<R: Threads + Wait + Sync, G: Gate + Sync>(
-    run: &SurveyRun<'_, R, G>,
+    run: &SearchRun<'_, R, G>,
     trace: &Trace,
     decision: Decision,
     extent: Extent,
@@ -200,7 +200,7 @@ fn said_of_whole<R: Threads + Wait + Sync, G: Gate + Sync>(
 
 /// Gives what the search shows of the whole trace, if few enough operations are left of it.
 fn decided_whole<R: Threads + Wait + Sync, G: Gate + Sync>(
-    run: &SurveyRun<'_, R, G>,
+    run: &SearchRun<'_, R, G>,
     trace: &Trace,
     extent: Extent,
 ) -> Result<Surveyed, SearchFault>
@@ -232,7 +232,7 @@ fn shown_by_schedule(
 
 /// Gives what the core of these names shows, if the search refutes its part.
 fn shown_by_core<R: Threads + Wait + Sync, G: Gate + Sync>(
-    run: &SurveyRun<'_, R, G>,
+    run: &SearchRun<'_, R, G>,
     trace: &Trace,
     names: Vec<OpName>,
 ) -> Result<Option<Surveyed>, SearchFault>
@@ -310,7 +310,7 @@ fn shown_by_reasons(
 
 /// Gives what follows from what was found, if it is as it should be.
 fn shown<R: Threads + Wait + Sync, G: Gate + Sync>(
-    run: &SurveyRun<'_, R, G>,
+    run: &SearchRun<'_, R, G>,
     trace: &Trace,
     finding: Finding,
 ) -> Result<Option<Surveyed>, SearchFault>
@@ -332,7 +332,7 @@ fn shown<R: Threads + Wait + Sync, G: Gate + Sync>(
 
 /// Gives what is decided by what was found, or else by the search of the whole after a survey that came this far.
 fn decide_by_finding<R: Threads + Wait + Sync, G: Gate + Sync>(
-    run: &SurveyRun<'_, R, G>,
+    run: &SearchRun<'_, R, G>,
     trace: &Trace,
     finding: Finding,
     extent: Extent,
@@ -352,7 +352,7 @@ fn decide_by_finding<R: Threads + Wait + Sync, G: Gate + Sync>(
 
 /// Gives what is decided by the first of what was found that shows something, or else by the search of the whole.
 fn decide_by_overview<R: Threads + Wait + Sync, G: Gate + Sync>(
-    run: &SurveyRun<'_, R, G>,
+    run: &SearchRun<'_, R, G>,
     trace: &Trace,
     overview: Overview,
 ) -> Result<Surveyed, SearchFault>
@@ -395,7 +395,7 @@ fn overview_of<S: Surveyor, G: Gate>(
 ///
 /// The surveyor is given the hint, operations in an order in which a schedule may have them, and nothing else is made of it.
 pub fn decide_by_survey<R: Threads + Wait + Sync, S: Surveyor, G: Gate + Sync>(
-    run: &SurveyRun<'_, R, G>,
+    run: &SearchRun<'_, R, G>,
     trace: &Trace,
     hint: &[OpName],
     surveyor: &S,
@@ -405,4 +405,24 @@ pub fn decide_by_survey<R: Threads + Wait + Sync, S: Surveyor, G: Gate + Sync>(
 {
     let overview = overview_of(run.alloc, trace, hint, surveyor, run.gate)?;
     decide_by_overview(run, trace, overview)
+}
+
+/// Decides as [`decide_by_survey`] does, without a hint, and with nothing that sees how far it is.
+pub fn decide_unwatched<R: Threads + Wait + Sync, S: Surveyor>(
+    alloc: Global,
+    rt: &R,
+    trace: &Trace,
+    options: &Options,
+    surveyor: &S,
+) -> Result<Surveyed, SearchFault>
+    ensures decided { IfOk result (IsSurveyed options.now trace.now) }
+    ensures follows { IfOk result (FollowsFromSome options.now trace.now (S.finds surveyor.now trace.now)) }
+{
+    let run = SearchRun {
+        alloc,
+        rt,
+        options,
+        gate: &OpenGate,
+    };
+    decide_by_survey(&run, trace, &[], surveyor)
 }

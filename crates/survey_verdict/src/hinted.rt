@@ -4,9 +4,8 @@ ghost use Rattle.survey_verdict.specs.Hinted.{FollowsWithHint, IsLegalExactlyIf}
 ghost use Rattle.survey_verdict.specs.Surveyed.{IsSurveyed};
 
 use crate::deciding::decide_by_survey;
-use crate::survey_run::SurveyRun;
 use crate::surveyed::Surveyed;
-use cube_jobs::{Gate, SearchFault};
+use cube_jobs::{Gate, SearchFault, SearchRun};
 use schedule_judge::judge::judge;
 use std::alloc::{AllocError, Global};
 use std::sync::Wait;
@@ -34,7 +33,7 @@ fn is_legal(alloc: Global, trace: &Trace, schedule: &Schedule) -> Result<bool, A
 /// Decides whether the trace has a legal schedule: by the hint, if that is one, and else as [`decide_by_survey`] does, which hands the hint
 /// on to the surveyor. A hint may be wrong, and an empty one is none.
 pub fn decide_with_hint<R: Threads + Wait + Sync, S: Surveyor, G: Gate + Sync>(
-    run: &SurveyRun<'_, R, G>,
+    run: &SearchRun<'_, R, G>,
     trace: &Trace,
     hint: Schedule,
     surveyor: &S,

@@ -10,13 +10,11 @@ mod hinted;
 pub mod laws;
 mod named_operations;
 mod reporting;
-mod survey_run;
 mod surveyed;
 mod word_set;
 
 pub use certifying::write_survey_certificate;
-pub use deciding::decide_by_survey;
+pub use deciding::{decide_by_survey, decide_unwatched};
 pub use hinted::decide_with_hint;
 pub use reporting::{names_of_core, part_of_core, report_of_survey};
-pub use survey_run::SurveyRun;
 pub use surveyed::{ReasonCertificate, RefutedCore, Surveyed};

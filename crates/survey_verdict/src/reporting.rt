@@ -1,32 +1,28 @@
 //! The report of what is decided with the help of a survey.
-ghost use Rattle.std.specs.Prelude.{◌≡◌, IfOk};
-ghost use Rattle.survey_verdict.specs.Surveyed.{core_names, core_part, core_report, extent_line, reasons_report, survey_report};
+ghost use Rattle.std.specs.Prelude.{◌≡◌, ◌++◌, IfOk, codes, decimal};
+ghost use Rattle.schedule_text.specs.ScheduleWritten.{canonical_schedule};
+ghost use Rattle.survey_verdict.specs.Surveyed.{core_names, core_part, extent_line, survey_report};
 
-use crate::surveyed::{ReasonCertificate, RefutedCore, Surveyed};
+use crate::surveyed::Surveyed;
 use part_text::part_writer::write_part;
 use schedule_text::schedule_writer::write_schedule;
 use std::alloc::{AllocError, Global};
 use surveyor::Extent;
 use trace_decision::{line_with_names, report_of};
+use trace_semantics::schedule::Schedule;
 
-/// The report of a core: how many operations it has, of how many cubes its refutation is, and the names.
-fn report_of_core(alloc: Global, core: &RefutedCore) -> Result<Vec<u8>, AllocError>
-    ensures { IfOk result (λ text. text.items ≡ core_report core.now) }
+/// The report of operations that show that there is no legal schedule: how many they are, this text, of how many cubes or reasons that is, and their names.
+fn report_of_names(
+    alloc: Global,
+    operations: usize,
+    between: &str,
+    count: usize,
+    names: &Schedule,
+) -> Result<Vec<u8>, AllocError>
+    ensures { IfOk result (λ text. text.items ≡ (codes "INCONSISTENT operations=" ++ (decimal operations ++ (between.now ++ (decimal count ++ codes "\n")))) ++ canonical_schedule names.now) }
 {
-    let operations = core.names.names().len();
-    let cubes = core.refutation.tree.leaves();
-    let line = format!(in alloc; "INCONSISTENT operations={operations} cubes={cubes}\n")?;
-    line_with_names(alloc, line.as_str(), &core.names)
-}
-
-/// The report of a certificate of reasons: how many operations its lines name, how many clauses they make, and the names.
-fn report_of_reasons(alloc: Global, reasons: &ReasonCertificate) -> Result<Vec<u8>, AllocError>
-    ensures { IfOk result (λ text. text.items ≡ reasons_report reasons.now) }
-{
-    let operations = reasons.operations;
-    let clauses = reasons.clauses;
-    let line = format!(in alloc; "INCONSISTENT operations={operations} reasons={clauses}\n")?;
-    line_with_names(alloc, line.as_str(), &reasons.names)
+    let line = format!(in alloc; "INCONSISTENT operations={operations}{between}{count}\n")?;
+    line_with_names(alloc, line.as_str(), names)
 }
 
 /// The line that says how far the survey came.
@@ -45,8 +41,20 @@ pub fn report_of_survey(alloc: Global, surveyed: &Surveyed) -> Result<Vec<u8>, A
 {
     match surveyed {
         Surveyed::Decided(decision) => report_of(alloc, decision),
-        Surveyed::Refuted(core) => report_of_core(alloc, core),
-        Surveyed::Reasoned(reasons) => report_of_reasons(alloc, reasons),
+        Surveyed::Refuted(core) => report_of_names(
+            alloc,
+            core.names.names().len(),
+            " cubes=",
+            core.refutation.tree.leaves() as usize,
+            &core.names,
+        ),
+        Surveyed::Reasoned(reasons) => report_of_names(
+            alloc,
+            reasons.operations,
+            " reasons=",
+            reasons.clauses,
+            &reasons.names,
+        ),
         Surveyed::Undecided(extent) => line_of_extent(alloc, extent),
     }
 }

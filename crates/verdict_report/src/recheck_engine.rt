@@ -1,9 +1,9 @@
 //! The engine that checks certificates, from bytes to bytes.
 
-ghost use Rattle.std.specs.Prelude.{◌≡◌, OnOk};
+ghost use Rattle.std.specs.Prelude.{◌≡◌, IfOk, OnOk, string_bytes};
 ghost use Rattle.reducer.specs.Reduced.{IsReduced};
 ghost use Rattle.verdict_report.specs.Engine.{IsRunOfWriting};
-ghost use Rattle.verdict_report.specs.RecheckEngine.{InputHasNoLegalSchedule, IsRecheckedFor, IsRunOfRecheck, IsSaidOfCertificate, IsSaidOfEither, IsSaidOfReasons, clauses_line, rechecked_line, rechecked_status, size_line, size_status};
+ghost use Rattle.verdict_report.specs.RecheckEngine.{InputHasNoLegalSchedule, IsRecheckedFor, IsRunOfRecheck, IsSaidOfCertificate, IsSaidOfEither, IsSaidOfReasons, size_line, size_status};
 ghost use Rattle.verdict_report.specs.Runs.{source_run, sink_run};
 
 use crate::fault::Fault;
@@ -16,7 +16,7 @@ use dimacs::{Sink, write_whole};
 use reason_check::reasons_check::check_reasons;
 use reason_text::reason_header::begins_reasons;
 use reducer::reduced::{Reduced, reduce};
-use std::alloc::Global;
+use std::alloc::{AllocError, Global};
 use trace_text::trace_reader::read_trace;
 
 /// What an accepted certificate is made of, and how many of them.
@@ -106,39 +106,28 @@ pub fn recheck_reduced(
     Ok(recheck(alloc, &clauses, certificate)?)
 }
 
-/// Writes that the certificate is accepted, and of how many cubes it is.
-pub fn write_count<W: Sink>(alloc: Global, count: u32, out: &mut W) -> Result<Status, Fault>
-    ensures run { IsRunOfWriting (rechecked_line count) (rechecked_status count)
-        (sink_run W.written W.failures out.old out.new)
-        result }
-    ensures same { W.path out.new ≡ W.path out.old }
+/// The line that says that a certificate of this size is accepted.
+fn line_of_size(alloc: Global, size: CertificateSize) -> Result<String, AllocError>
+    ensures { IfOk result (λ line. string_bytes line ≡ size_line size) }
 {
-    let line = format!(in alloc; "ACCEPTED cubes={count}\n")?;
-    write_whole(out, line.as_bytes())?;
-    Ok(Status::Yes)
-}
-
-/// Writes that a certificate of reasons is accepted, and of how many clauses it is.
-fn write_clauses<W: Sink>(alloc: Global, count: usize, out: &mut W) -> Result<Status, Fault>
-    ensures run { IsRunOfWriting (clauses_line count) (rechecked_status count)
-        (sink_run W.written W.failures out.old out.new)
-        result }
-    ensures same { W.path out.new ≡ W.path out.old }
-{
-    let line = format!(in alloc; "ACCEPTED clauses={count}\n")?;
-    write_whole(out, line.as_bytes())?;
-    Ok(Status::Yes)
+    match size {
+        CertificateSize::Cubes(count) => format!(in alloc; "ACCEPTED cubes={count}\n"),
+        CertificateSize::Clauses(count) => format!(in alloc; "ACCEPTED clauses={count}\n"),
+    }
 }
 
 /// Writes that a certificate is accepted, and its size.
-fn write_size<W: Sink>(alloc: Global, size: CertificateSize, out: &mut W) -> Result<Status, Fault>
+pub fn write_size<W: Sink>(
+    alloc: Global,
+    size: CertificateSize,
+    out: &mut W,
+) -> Result<Status, Fault>
     ensures run { IsRunOfWriting (size_line size) (size_status size)
         (sink_run W.written W.failures out.old out.new)
         result }
     ensures same { W.path out.new ≡ W.path out.old }
 {
-    match size {
-        CertificateSize::Cubes(count) => write_count(alloc, count, out),
-        CertificateSize::Clauses(count) => write_clauses(alloc, count, out),
-    }
+    let line = line_of_size(alloc, size)?;
+    write_whole(out, line.as_bytes())?;
+    Ok(Status::Yes)
 }

@@ -13,8 +13,7 @@ use crate::fault::Fault;
 use crate::inputs::read_one;
 use crate::source::Source;
 use crate::status::Status;
-use crate::verify_run::VerifyRun;
-use cube_jobs::{Gate, Options};
+use cube_jobs::{Gate, Options, SearchRun};
 use dimacs::{Sink, write_whole};
 use std::alloc::Global;
 use std::sync::Wait;
@@ -63,7 +62,7 @@ pub fn run_verify<R: Threads + Wait + Sync, T: Source, G: Gate + Sync, W: Sink>(
 /// Where memory runs out or a sink fails while the certificate or the report is written, a prefix of the two may have been written, the
 /// certificate first. Before the other refusals, which are those of `run_verify`, nothing was.
 pub fn run_certified_verify<R: Threads + Wait + Sync, T: Source, G: Gate + Sync, C: Sink, W: Sink>(
-    run: &VerifyRun<'_, R, G>,
+    run: &SearchRun<'_, R, G>,
     trace: &mut T,
     cert: &mut C,
     out: &mut W,
@@ -109,7 +108,7 @@ fn decide_text<R: Threads + Wait + Sync, G: Gate + Sync>(
 }
 
 /// The status that goes with a decision.
-fn status_of(decision: &Decision) -> Status
+pub fn status_of(decision: &Decision) -> Status
     ensures { result ≡ status_of_decision decision.now }
 {
     match decision {

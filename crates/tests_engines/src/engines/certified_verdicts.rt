@@ -4,13 +4,13 @@ use crate::engines::rechecks::assert_accepted;
 use crate::engines::verdicts::{DECIDED_TRACES, DecidedTrace, options_of};
 use crate::expectations::expect;
 use crate::short_devices::{failing_at, sink_failing_at, source_of};
-use cube_jobs::OpenGate;
+use cube_jobs::{OpenGate, SearchRun};
 use dimacs::{MemorySink, ShortSink};
 use std::alloc::Global;
 use std::process::Abort;
 use std::sync::Wait;
 use std::thread::Threads;
-use verdict_report::{Fault, ShortSource, Status, VerifyRun, run_certified_verify};
+use verdict_report::{Fault, ShortSource, Status, run_certified_verify};
 
 /// How many verdicts have a certificate: they are the first ones.
 const CERTIFIED: usize = 2;
@@ -34,7 +34,7 @@ fn whole_certificate<R: Threads + Wait + Abort + Sync>(
     let mut trace = source_of(verdict.trace);
     let mut cert = MemorySink::new(alloc);
     let mut out = MemorySink::new(alloc);
-    let run = VerifyRun {
+    let run = SearchRun {
         alloc,
         rt,
         options: &options,
@@ -95,7 +95,7 @@ fn assert_certifies<R: Threads + Wait + Abort + Sync>(
         mut cert,
         mut out,
     } = devices;
-    let run = VerifyRun {
+    let run = SearchRun {
         alloc,
         rt,
         options: &options,

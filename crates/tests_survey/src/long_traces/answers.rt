@@ -2,14 +2,13 @@
 
 use crate::expectations::ample;
 use crate::long_traces::traces::no_hint;
-use cube_jobs::{OpenGate, Options};
+use cube_jobs::{OpenGate, Options, SearchRun};
 use dimacs::ShortSink;
 use std::alloc::Global;
 use std::process::Abort;
 use std::sync::Wait;
 use std::thread::Threads;
 use survey_report::{CoreSinks, run_certified_survey, run_survey};
-use survey_verdict::SurveyRun;
 use surveyor::Surveyor;
 use verdict_report::{Fault, ShortSource, Status};
 
@@ -42,7 +41,7 @@ pub fn answer_over<R: Threads + Wait + Abort + Sync, S: Surveyor>(
         mut report,
     } = devices;
     let options = ample(rt, Options::new(1, 0, budget, 1));
-    let run = SurveyRun {
+    let run = SearchRun {
         alloc,
         rt,
         options: &options,
@@ -114,7 +113,7 @@ pub fn written_to<R: Threads + Wait + Abort + Sync, S: Surveyor>(
     };
     let options = ample(rt, Options::new(1, 0, 10_000, 1));
     let mut hint = no_hint();
-    let run = SurveyRun {
+    let run = SearchRun {
         alloc,
         rt,
         options: &options,

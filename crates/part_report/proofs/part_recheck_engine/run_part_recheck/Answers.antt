@@ -13,8 +13,8 @@ returns-clause-run g c =
     let first : SourceRun = source_run g.T.Source.handed_out g.T.Source.is_at_end g.T.Source.failures c.args.trace.now c.read_three.new.first in
     let second : SourceRun = source_run g.C.Source.handed_out g.C.Source.is_at_end g.C.Source.failures c.args.cert.now c.read_three.new.second in
     let third : SourceRun = source_run g.N.Source.handed_out g.N.Source.is_at_end g.N.Source.failures c.args.names.now c.read_three.new.third in
-    let out : SinkRun = sink_run g.W.Sink.written g.W.Sink.failures c.args.out.now c.write_count.new.out in
-    written (of_three IsSaidByPart) rechecked_line rechecked_status (first ∷ second ∷ third ∷ []) out (c.in_ok-trace_text.trace_text.items ∷ c.in_ok-trace_text.cert_text.items ∷ c.in_ok-trace_text.names_text.items ∷ []) (search rules) c.in_ok-count.count (search rules) c.write_count.result c.write_count.ensures.run
+    let out : SinkRun = sink_run g.W.Sink.written g.W.Sink.failures c.args.out.now c.write_size.new.out in
+    written (of_three IsSaidByPart) rechecked_line rechecked_status (first ∷ second ∷ third ∷ []) out (c.in_ok-trace_text.trace_text.items ∷ c.in_ok-trace_text.cert_text.items ∷ c.in_ok-trace_text.names_text.items ∷ []) (search rules) c.in_ok-count.count (search rules) c.write_size.result c.write_size.ensures.run
 
 pub returns-in_err-trace_text-clause-run : goal.returns-in_err-trace_text-clause-run
 returns-in_err-trace_text-clause-run g c =
@@ -41,4 +41,4 @@ returns-clause-sound g c =
     let third : SourceRun = source_run g.N.Source.handed_out g.N.Source.is_at_end g.N.Source.failures c.args.names.now c.read_three.new.third in
     let handed : HandOut (first ∷ second ∷ third ∷ []) (c.in_ok-trace_text.trace_text.items ∷ c.in_ok-trace_text.cert_text.items ∷ c.in_ok-trace_text.names_text.items ∷ []) = search rules in
     let accepted : AreRecheckedByPart c.in_ok-trace_text.trace_text.items c.in_ok-trace_text.cert_text.items c.in_ok-trace_text.names_text.items c.in_ok-count.count = search rules in
-    shown first c.in_ok-trace_text.trace_text.items c.in_ok-trace_text.cert_text.items c.in_ok-trace_text.names_text.items c.in_ok-count.count handed.0.0 accepted c.write_count.result
+    shown first c.in_ok-trace_text.trace_text.items c.in_ok-trace_text.cert_text.items c.in_ok-trace_text.names_text.items c.in_ok-count.count handed.0.0 accepted c.write_size.result

@@ -1,7 +1,0 @@
-use Rattle.std.proofs.Common.{◌≡◌, length, take}
-use Rattle.std.specs.List.{sum_by}
-use Rattle.trace_semantics.specs.declared.trace.Process.{Process}
-use Rattle.survey_verdict.proofs.extent.count_operations.Given as goal
-
-abbrev pub invariant-loop-process : goal.invariant-loop-process
-invariant-loop-process l = l.count ≡ sum_by (λ (p : Process). length p.operations) (take l.process-index l.processes)
