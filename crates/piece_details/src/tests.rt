@@ -31,19 +31,22 @@ fn found<R: Threads + Wait + Sync>(
     details_of(alloc, rt, text, &search, true).ok()?
 }
 
-/// The members that say them.
-fn members(alloc: Global, details: &PieceDetails) -> Option<Vec<u8>> {
-    let mut text = Vec::new(alloc);
-    push_members(alloc, &mut text, details).ok()?;
-    Some(text)
+/// The details of the trace in this text, by a search with this budget, and the members that say them.
+fn told<R: Threads + Wait + Sync>(
+    alloc: Global,
+    rt: &R,
+    text: &[u8],
+    budget: u64,
+) -> Option<(PieceDetails, Vec<u8>)> {
+    let details = found(alloc, rt, text, budget)?;
+    let mut members = Vec::new(alloc);
+    push_members(alloc, &mut members, &details).ok()?;
+    Some((details, members))
 }
 
 #[test]
 fn schedule_of_a_consistent_trace(rt: HostRuntime) {
-    let Some(details) = found(rt.alloc(), &rt, HAND_OFF, 100_000) else {
-        return;
-    };
-    let Some(text) = members(rt.alloc(), &details) else {
+    let Some((details, text)) = told(rt.alloc(), &rt, HAND_OFF, 100_000) else {
         return;
     };
     assert!(rt; text.as_slice() == b",\"schedule\":[\"P.1\",\"Q.1\"]".as_slice());
@@ -52,10 +55,7 @@ fn schedule_of_a_consistent_trace(rt: HostRuntime) {
 
 #[test]
 fn why_of_an_inconsistent_trace(rt: HostRuntime) {
-    let Some(details) = found(rt.alloc(), &rt, STORE_BUFFERING, 100_000) else {
-        return;
-    };
-    let Some(text) = members(rt.alloc(), &details) else {
+    let Some((details, text)) = told(rt.alloc(), &rt, STORE_BUFFERING, 100_000) else {
         return;
     };
     assert!(rt; text.as_slice().starts_with(b",\"why\":[\""));
@@ -67,10 +67,7 @@ fn why_of_an_inconsistent_trace(rt: HostRuntime) {
 
 #[test]
 fn cubes_of_an_open_trace(rt: HostRuntime) {
-    let Some(details) = found(rt.alloc(), &rt, STORE_BUFFERING, 0) else {
-        return;
-    };
-    let Some(text) = members(rt.alloc(), &details) else {
+    let Some((_details, text)) = told(rt.alloc(), &rt, STORE_BUFFERING, 0) else {
         return;
     };
     assert!(rt; text.as_slice() == b",\"open_cubes\":[[3],[-3]]".as_slice());
