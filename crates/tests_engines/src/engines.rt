@@ -3,9 +3,7 @@
 mod certified_verdicts;
 mod formula_engines;
 mod judging;
-mod part_rechecks;
-mod parts;
-mod rechecks;
+mod known_runs;
 mod text_runs;
 mod verdicts;
 mod wanted_runs;

@@ -4,10 +4,7 @@ use std::process::Abort;
 
 /// The answer of a call that has memory enough.
 pub fn ample<T, E: Drop>(rt: &impl Abort, outcome: Result<T, E>) -> T {
-    match outcome {
-        Ok(value) => value,
-        Err(_) => panic!(rt; "there is no memory, or a text is refused"),
-    }
+    outcome.ok().expect(rt, "no memory, or a refused text")
 }
 
 /// Asserts what is found in the case of this number.

@@ -55,28 +55,43 @@ fn assert_not_split(rt: &impl Abort, alloc: Global, text: &[u8], leaf: u32, caus
     expect(rt, is_same, leaf as usize);
 }
 
-#[test]
-fn splits_no_leaf_that_is_deep(rt: HostRuntime) {
-    let text = deep_text(&rt, rt.alloc(), 20);
-    let deep = text.as_slice();
-    assert_not_split(&rt, rt.alloc(), deep, 0, SplitCause::TooDeep);
-    assert_not_split(&rt, rt.alloc(), deep, 1, SplitCause::TooDeep);
-    assert_not_split(&rt, rt.alloc(), deep, 21, SplitCause::NoSuchLeaf);
+/// A leaf that is not split, and why.
+type UnsplitLeaf = (u32, SplitCause);
+
+/// Leaves of a tree of 20 splits, each in the left tree of the one before.
+const OF_DEEP: &[UnsplitLeaf] = &[
+    (0, SplitCause::TooDeep),
+    (1, SplitCause::TooDeep),
+    (21, SplitCause::NoSuchLeaf),
+];
+
+/// Leaves of the full tree.
+const OF_FULL: &[UnsplitLeaf] = &[
+    (1023, SplitCause::TooManyLeaves),
+    (1024, SplitCause::NoSuchLeaf),
+];
+
+/// Leaves of the crowded tree. Its first leaf is deep too: the lowest cause is reported.
+const OF_CROWDED: &[UnsplitLeaf] = &[
+    (0, SplitCause::TooManyLeaves),
+    (1024, SplitCause::NoSuchLeaf),
+];
+
+/// Asserts so of each of these leaves.
+fn assert_none_split(rt: &impl Abort, alloc: Global, text: &[u8], leaves: &[UnsplitLeaf]) {
+    for (leaf, cause) in leaves {
+        assert_not_split(rt, alloc, text, *leaf, *cause);
+    }
 }
 
 #[test]
-fn splits_no_leaf_of_many(rt: HostRuntime) {
-    let text = full_text(&rt, rt.alloc());
-    let full = text.as_slice();
-    assert_not_split(&rt, rt.alloc(), full, 1023, SplitCause::TooManyLeaves);
-    assert_not_split(&rt, rt.alloc(), full, 1024, SplitCause::NoSuchLeaf);
-}
-
-#[test]
-fn tells_the_lowest_cause(rt: HostRuntime) {
-    let text = crowded_text(&rt, rt.alloc());
-    let crowded = text.as_slice();
-    assert!(&rt; tree_of(&rt, rt.alloc(), crowded).leaves() == 1024);
-    assert_not_split(&rt, rt.alloc(), crowded, 0, SplitCause::TooManyLeaves);
-    assert_not_split(&rt, rt.alloc(), crowded, 1024, SplitCause::NoSuchLeaf);
+fn splits_no_leaf_that_is_deep_or_of_many(rt: HostRuntime) {
+    let deep = deep_text(&rt, rt.alloc(), 20);
+    assert_none_split(&rt, rt.alloc(), deep.as_slice(), OF_DEEP);
+    let full = full_text(&rt, rt.alloc());
+    assert_none_split(&rt, rt.alloc(), full.as_slice(), OF_FULL);
+    let crowded = crowded_text(&rt, rt.alloc());
+    let leaves = tree_of(&rt, rt.alloc(), crowded.as_slice()).leaves();
+    assert!(&rt; leaves == 1024);
+    assert_none_split(&rt, rt.alloc(), crowded.as_slice(), OF_CROWDED);
 }

@@ -14,7 +14,7 @@ use std::test::Fail;
 use std::thread::Threads;
 
 /// Each choice of truth values for both variables is ruled out by one clause.
-const ALL_RULED_OUT: &str = "p cnf 2 4\n1 2 0\n1 -2 0\n-1 2 0\n-1 -2 0\n";
+pub const ALL_RULED_OUT: &str = "p cnf 2 4\n1 2 0\n1 -2 0\n-1 2 0\n-1 -2 0\n";
 
 /// A leaf for each of these choices.
 const FOUR_LEAVES: &[u8] = b"split 1\nsplit 2\nleaf\nleaf\nsplit 2\nleaf\nleaf\n";
@@ -55,7 +55,7 @@ fn ledger_but_for<R: Threads + Wait + Abort + Sync>(
 }
 
 /// Returns whether this number of workers finds that these leaves are open, or, where there are none, that each leaf is refuted.
-fn are_open<R: Threads + Sync>(
+pub fn are_open<R: Threads + Sync>(
     rt: &R,
     alloc: Global,
     formula: &Formula,
@@ -68,7 +68,7 @@ fn are_open<R: Threads + Sync>(
     let verdict = ledger.confirm(alloc, rt, formula, workers)?;
     Ok(match verdict {
         Verdict::Consistent(_, _) => false,
-        Verdict::Inconsistent(count) => count == 4 && open.is_empty(),
+        Verdict::Inconsistent(count) => count == ledger.leaves() && open.is_empty(),
         Verdict::Unknown(leaves) => leaves.as_slice() == open,
     })
 }
@@ -79,6 +79,7 @@ fn any_number_of_workers_confirms_the_same(rt: HostRuntime) -> Result<(), Fail> 
     let formula = formula_of(&rt, alloc, ALL_RULED_OUT);
     for open in [[].as_slice(), &[0, 3], &[2], &[0, 1, 2, 3]] {
         let ledger = ledger_but_for(&rt, alloc, &formula, open)?;
+        assert!(&rt; ledger.leaves() == 4);
         for workers in 1..9 {
             let is_right = are_open(&rt, alloc, &formula, &ledger, workers, open)?;
             assert!(&rt; is_right, "{workers} workers");

@@ -1,19 +1,15 @@
 //! A long derivation for the one leaf of a tree, of which each worker checks a piece: any number of them comes to the same verdict.
-ghost use Rattle.std.specs.Prelude.{◌≤◌};
 
+use crate::workers::confirmations::{ALL_RULED_OUT, are_open};
 use crate::workers::searches::{formula_of, tree_of};
 use cube_jobs::{Job, Outcome};
-use dimacs::{Clause, Formula, Lit};
+use dimacs::{Clause, Lit};
 use lrat_check::derivation::{Derivation, Step};
 use lrat_check::hints::Hints;
-use result_ledger::{Ledger, Verdict};
+use result_ledger::Ledger;
 use std::alloc::{AllocError, Global};
 use std::process::Abort;
 use std::test::Fail;
-use std::thread::Threads;
-
-/// Each choice of truth values for both variables is ruled out by one clause.
-const ALL_RULED_OUT: &str = "p cnf 2 4\n1 2 0\n1 -2 0\n-1 2 0\n-1 -2 0\n";
 
 /// How many steps the derivations have.
 const STEPS: u64 = 6_000;
@@ -24,17 +20,17 @@ const HINTS: [i64; 20] = [1, 1, 1, 1, 1, 1, 1, 1, 1, 1, 1, 1, 1, 1, 1, 1, 1, 1, 
 /// No step of a derivation stands there.
 const NOWHERE: u64 = 10_000;
 
-/// The places of a step that is wrong and of the empty clause, and whether the derivation is accepted.
-type DerivationCase = (u64, u64, bool);
+/// The places of a step that is wrong and of the empty clause, and the leaves that stay open: none if the derivation is accepted.
+type DerivationCase = (u64, u64, &'static [u32]);
 
 const CASES: [DerivationCase; 6] = [
-    (NOWHERE, 5_999, true),
-    (NOWHERE, NOWHERE, false),
-    (5_900, 5_999, false),
-    (10, 5_999, false),
+    (NOWHERE, 5_999, &[]),
+    (NOWHERE, NOWHERE, &[0]),
+    (5_900, 5_999, &[0]),
+    (10, 5_999, &[0]),
     // What stands behind the empty clause is not looked at.
-    (5_900, 2_000, true),
-    (NOWHERE, 1, true),
+    (5_900, 2_000, &[]),
+    (NOWHERE, 1, &[]),
 ];
 
 /// The step that adds the clause of these literals under this id.
@@ -78,34 +74,16 @@ fn ledger_with(rt: &impl Abort, alloc: Global, derivation: Derivation) -> Result
     Ok(ledger)
 }
 
-/// Returns whether this number of workers finds the one leaf refuted if it is, and open if not.
-fn is_found<R: Threads + Sync>(
-    rt: &R,
-    alloc: Global,
-    formula: &Formula,
-    ledger: &Ledger,
-    workers: u32,
-    refuted: bool,
-) -> Result<bool, Fail>
-    requires { (1 ≤ workers) × (workers ≤ 8) }
-{
-    let verdict = ledger.confirm(alloc, rt, formula, workers)?;
-    Ok(match verdict {
-        Verdict::Consistent(_, _) => false,
-        Verdict::Inconsistent(count) => count == 1 && refuted,
-        Verdict::Unknown(leaves) => leaves.as_slice() == [0].as_slice() && !refuted,
-    })
-}
-
 #[test]
 fn pieces_of_a_long_derivation_are_found_the_same(rt: HostRuntime) -> Result<(), Fail> {
     let alloc = rt.alloc();
     let formula = formula_of(&rt, alloc, ALL_RULED_OUT);
-    for (wrong, empty, refuted) in &CASES {
+    for (wrong, empty, open) in &CASES {
         let derivation = derivation_with(alloc, *wrong, *empty)?;
         let ledger = ledger_with(&rt, alloc, derivation)?;
+        assert!(&rt; ledger.leaves() == 1);
         for workers in 1..5 {
-            let is_right = is_found(&rt, alloc, &formula, &ledger, workers, *refuted)?;
+            let is_right = are_open(&rt, alloc, &formula, &ledger, workers, *open)?;
             assert!(&rt; is_right, "{workers} workers");
         }
     }

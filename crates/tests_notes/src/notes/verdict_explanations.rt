@@ -34,13 +34,18 @@ fn file<'t>(name: &'t str, text: &'t str) -> NamedText<'t> {
     }
 }
 
-/// The search of a trace.
-fn search<'t>(trace: &'t str, effort: SearchEffort, report: Option<&'t [u8]>) -> AskedCommand<'t> {
+/// The search of a trace, which gives this report and a certificate of this length.
+fn search<'t>(
+    trace: &'t str,
+    effort: SearchEffort,
+    report: Option<&'t [u8]>,
+    certificate_length: Option<u64>,
+) -> AskedCommand<'t> {
     AskedCommand::Verify {
         trace: file("t.trace", trace),
         effort,
         report,
-        certificate_length: None,
+        certificate_length,
     }
 }
 
@@ -151,7 +156,7 @@ const SOURCELESS: [(&str, &str); 6] = [
 fn says_why_a_trace_is_inconsistent(rt: HostRuntime) {
     for number in 0..SOURCELESS.len() {
         let (trace, wanted) = SOURCELESS[number];
-        let asked = search(trace, USUAL, None);
+        let asked = search(trace, USUAL, None, None);
         assert_notes(rt.alloc(), &rt, &asked, Status::No, wanted, number);
     }
 }
@@ -160,38 +165,30 @@ fn says_why_a_trace_is_inconsistent(rt: HostRuntime) {
 fn says_what_to_try(rt: HostRuntime) {
     let advice =
         "note: try --budget 1000000 in place of 100000: it bounds proofs by counting too\nnote: try --rounds 4: each round splits the cubes that are open\nnote: try --workers 8, if there are as many processors: it searches more cubes at once\n";
-    let asked = search(STORE_BUFFERING, USUAL, None);
+    let asked = search(STORE_BUFFERING, USUAL, None, None);
     assert_notes(rt.alloc(), &rt, &asked, Status::Unknown, advice, 1);
     let report = b"UNKNOWN open=2\nopen 3 0\nopen -3 0\n";
-    let asked = search(STORE_BUFFERING, LARGEST, Some(report));
+    let asked = search(STORE_BUFFERING, LARGEST, Some(report), None);
     let cubes =
         "note: cubes that are open: 2; a legal schedule can only be in one of them\nnote: open: P.1 before Q.2\nnote: open: Q.2 before P.1\n";
     assert_notes(rt.alloc(), &rt, &asked, Status::Unknown, cubes, 2);
 }
 
 #[test]
-fn says_how_a_certificate_gets_shorter(rt: HostRuntime) {
-    let asked = AskedCommand::Verify {
-        trace: file("t.trace", "vsc 1\nproc P\nR x 1\n"),
-        effort: USUAL,
-        report: None,
-        certificate_length: Some(268_435_457),
-    };
+fn says_how_a_certificate_gets_shorter_and_what_it_shows(rt: HostRuntime) {
+    let trace = "vsc 1\nproc P\nR x 1\n";
+    let asked = search(trace, USUAL, None, Some(268_435_457));
     let wanted =
         "note: P.1 reads 1 at x, which nothing writes, and x has no init line\nnote: this alone rules out all schedules\nnote: the certificate has 268435457 bytes, and vsc recheck reads at most 268435456\nnote: --split 0 gives one proof in place of one for each cube, and mostly a shorter certificate\n";
     assert_notes(rt.alloc(), &rt, &asked, Status::No, wanted, 1);
-}
-
-#[test]
-fn says_what_a_certificate_shows(rt: HostRuntime) {
     let asked = AskedCommand::Recheck {
-        trace: file("t.trace", "vsc 1\nproc P\nR x 1\n"),
+        trace: file("t.trace", trace),
         cert: file("t.cert", ""),
         names: Some(file("t.names", "P.1\n")),
     };
     let wanted =
         "note: t.trace has no legal schedule: each proof was checked\nnote: the operations that are named suffice for that\n";
-    assert_notes(rt.alloc(), &rt, &asked, Status::Yes, wanted, 1);
+    assert_notes(rt.alloc(), &rt, &asked, Status::Yes, wanted, 2);
 }
 
 #[test]

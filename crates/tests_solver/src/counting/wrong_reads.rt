@@ -94,24 +94,56 @@ fn mistaken_choice(choice: ReadsFromEdge, mistake: ReadsMistake) -> ReadsFromEdg
     }
 }
 
-/// Gives what is said of the readers, with the mistake in it.
-fn mistaken(
-    alloc: Global,
-    reads: &MatchingInstance,
-    mistake: ReadsMistake,
-) -> Result<MatchingInstance, AllocError> {
-    let mut said = MatchingInstance::new(alloc);
-    for number in 0..reads.readers() {
-        let reader = reads.reader(number);
-        said.add_reader(Reader {
-            clause: reader.clause.wrapping_add(mistake.readers),
-            ..reader
-        })?;
-        for choice in reads.first_choice(number)..reads.first_choice(number.wrapping_add(1)) {
-            said.add_choice(mistaken_choice(reads.choice(choice), mistake))?;
+/// What is said of readers and of their choices in place of what is so.
+#[derive(Clone, Copy)]
+enum Untruth {
+    /// Numbers with this mistake in them.
+    Mistaken(ReadsMistake),
+    /// That the initial value is no source.
+    LeavesOutInitial,
+    /// That the initial value is a source that is excluded.
+    ExcludesInitial,
+}
+
+impl Untruth {
+    /// Gives what is said of the reader.
+    fn of_reader(self, reader: Reader) -> Reader {
+        match self {
+            Untruth::Mistaken(mistake) => Reader {
+                clause: reader.clause.wrapping_add(mistake.readers),
+                ..reader
+            },
+            _ => reader,
         }
     }
-    Ok(said)
+
+    /// Gives what is said of the choice, if anything is.
+    fn of_choice(self, choice: ReadsFromEdge) -> Option<ReadsFromEdge> {
+        let is_initial = choice.place.is_none();
+        match self {
+            Untruth::Mistaken(mistake) => Some(mistaken_choice(choice, mistake)),
+            Untruth::LeavesOutInitial if is_initial => None,
+            Untruth::LeavesOutInitial => Some(choice),
+            Untruth::ExcludesInitial => Some(ReadsFromEdge {
+                is_excluded: choice.is_excluded || is_initial,
+                ..choice
+            }),
+        }
+    }
+
+    /// Gives what is said of these readers.
+    fn told(self, alloc: Global, reads: &MatchingInstance) -> Result<MatchingInstance, AllocError> {
+        let mut said = MatchingInstance::new(alloc);
+        for number in 0..reads.readers() {
+            said.add_reader(self.of_reader(reads.reader(number)))?;
+            for choice in reads.first_choice(number)..reads.first_choice(number.wrapping_add(1)) {
+                if let Some(choice) = self.of_choice(reads.choice(choice)) {
+                    said.add_choice(choice)?;
+                }
+            }
+        }
+        Ok(said)
+    }
 }
 
 /// Returns whether a derivation is accepted that is written with this mistake. What it is of is found without it.
@@ -125,7 +157,7 @@ fn is_accepted(
     let Some(contradiction) = find_contradiction(alloc, &spelling.reads, known)? else {
         return Ok(false);
     };
-    let reads = mistaken(alloc, &spelling.reads, mistake)?;
+    let reads = Untruth::Mistaken(mistake).told(alloc, &spelling.reads)?;
     let order = OrderClauses {
         first: known.order.first.wrapping_add(mistake.order),
         ..known.order
@@ -172,38 +204,15 @@ fn mistakes_cost_the_derivation(rt: HostRuntime) -> Result<(), Fail> {
     Ok(())
 }
 
-/// Gives what is said of the readers, without the initial value as a source, or with that as one that is excluded.
-fn without_initial(
-    alloc: Global,
-    reads: &MatchingInstance,
-    leaves_out: bool,
-) -> Result<MatchingInstance, AllocError> {
-    let mut said = MatchingInstance::new(alloc);
-    for number in 0..reads.readers() {
-        said.add_reader(reads.reader(number))?;
-        for choice in reads.first_choice(number)..reads.first_choice(number.wrapping_add(1)) {
-            let choice = reads.choice(choice);
-            let is_initial = choice.place.is_none();
-            if !(is_initial && leaves_out) {
-                said.add_choice(ReadsFromEdge {
-                    is_excluded: choice.is_excluded || is_initial,
-                    ..choice
-                })?;
-            }
-        }
-    }
-    Ok(said)
-}
-
-/// Returns whether a derivation of what is found without the initial value is accepted, if anything is found.
-fn accepted_without_initial(
+/// Returns whether a derivation of what is found by an untruth is accepted, if anything is found.
+fn accepted_by(
     alloc: Global,
     location: Location<'_>,
-    leaves_out: bool,
+    untruth: Untruth,
 ) -> Result<Option<bool>, AllocError> {
     let spelling = Spelling::of(alloc, location)?;
     let known = spelling.known();
-    let reads = without_initial(alloc, &spelling.reads, leaves_out)?;
+    let reads = untruth.told(alloc, &spelling.reads)?;
     let Some(contradiction) = find_contradiction(alloc, &reads, known)? else {
         return Ok(None);
     };
@@ -247,8 +256,8 @@ fn no_contradiction_is_shown_by_mistake(rt: HostRuntime) -> Result<(), Fail> {
         let acquires = releases.wrapping_add(1);
         let lock = times(alloc, &[(update(0, 1), acquires), (WRITE, releases)])?;
         let lock = from_zero(lock.as_slice());
-        for leaves_out in [false, true] {
-            let accepted = accepted_without_initial(alloc, lock, leaves_out)?;
+        for untruth in [Untruth::ExcludesInitial, Untruth::LeavesOutInitial] {
+            let accepted = accepted_by(alloc, lock, untruth)?;
             assert!(rt; accepted == Some(false), "{releases}");
         }
     }

@@ -1,6 +1,6 @@
 //! The engine that decides long traces, over devices in memory: what it answers, and what its sinks take.
 
-use crate::expectations::ample;
+use crate::expectations::{ample, expect};
 use crate::long_traces::traces::no_hint;
 use cube_jobs::{OpenGate, Options, SearchRun};
 use dimacs::ShortSink;
@@ -8,6 +8,7 @@ use std::alloc::Global;
 use std::process::Abort;
 use std::sync::Wait;
 use std::thread::Threads;
+use survey::BySaturation;
 use survey_report::{CoreSinks, run_certified_survey, run_survey};
 use surveyor::Surveyor;
 use verdict_report::{Fault, ShortSource, Status};
@@ -71,6 +72,21 @@ pub fn answer_with<R: Threads + Wait + Abort + Sync, S: Surveyor>(
         report: sink(alloc),
     };
     answer_over(alloc, rt, devices, surveyor, budget)
+}
+
+/// Gives the answer on the trace by a survey of this budget, without a hint. Asserts its status, in the case of this number.
+pub fn answer_of_survey<R: Threads + Wait + Abort + Sync>(
+    alloc: Global,
+    rt: &R,
+    trace: &str,
+    budget: u64,
+    status: Status,
+    number: usize,
+) -> Answered {
+    let survey = BySaturation { budget };
+    let found = answer_with(alloc, rt, trace, "", &survey, 10_000);
+    expect(rt, found.outcome == Ok(status), number);
+    found
 }
 
 /// The sinks of a survey that certifies.

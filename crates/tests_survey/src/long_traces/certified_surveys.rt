@@ -29,10 +29,10 @@ fn written_of<R: Threads + Wait + Abort + Sync, S: Surveyor>(
     found
 }
 
-/// Asserts that the certificate is accepted for the trace, in the case of this number.
-fn assert_accepts(alloc: Global, rt: &impl Abort, trace: &[u8], certificate: &[u8], number: usize) {
+/// Asserts that the certificate that was written is accepted for the trace, in the case of this number.
+fn assert_accepts(alloc: Global, rt: &impl Abort, trace: &[u8], found: &Written, number: usize) {
     let mut trace = ShortSource::new(trace, 99);
-    let mut text = ShortSource::new(certificate, 99);
+    let mut text = ShortSource::new(found.certificate.as_slice(), 99);
     let mut answer = MemorySink::new(alloc);
     let outcome = run_recheck(alloc, &mut trace, &mut text, &mut answer);
     expect(rt, outcome == Ok(Status::Yes), number);
@@ -49,13 +49,7 @@ fn certifies_the_part_of_a_core(rt: HostRuntime) {
     let part: &[u8] =
         b"vsc 1\ninit x 0\ninit y 0\nproc P\n# P.201\nW x 1\n# P.202\nR y 0\nproc Q\n# Q.1\nW y 1\n# Q.2\nR x 0\n";
     expect(&rt, found.part.as_slice() == part, 12);
-    assert_accepts(
-        rt.alloc(),
-        &rt,
-        found.part.as_slice(),
-        found.certificate.as_slice(),
-        13,
-    );
+    assert_accepts(rt.alloc(), &rt, found.part.as_slice(), &found, 13);
 }
 
 /// Asserts that no core was named, in the case of this number.
@@ -69,19 +63,10 @@ const BACK: &str = "vsc 2\nproc P\nW x 1\nW x 2\nbefore P 2 P 1\n";
 // A pair that goes back in one process is in no part, so there is no core, and the certificate is one for the whole.
 #[test]
 fn certifies_the_whole_without_a_core(rt: HostRuntime) {
-    let liar = Liar {
-        lie: Lie::Core(1, 2),
-        otherwise: Lie::Nothing,
-    };
+    let liar = Liar::of(Lie::Core(1, 2));
     let found = written_of(rt.alloc(), &rt, BACK, &liar, Status::No, 14);
     assert_without_core(&rt, &found, 14);
-    assert_accepts(
-        rt.alloc(),
-        &rt,
-        BACK.as_bytes(),
-        found.certificate.as_slice(),
-        15,
-    );
+    assert_accepts(rt.alloc(), &rt, BACK.as_bytes(), &found, 15);
 }
 
 // A core of 180 operations has no part that a formula decides, so the certificate is one of reasons, and accepted for the whole.
@@ -93,13 +78,7 @@ fn certifies_the_whole_by_reasons(rt: HostRuntime) {
     let header: &[u8] = b"vsc-reasons 1\n";
     expect(&rt, found.certificate.as_slice().starts_with(header), 18);
     assert_without_core(&rt, &found, 18);
-    assert_accepts(
-        rt.alloc(),
-        &rt,
-        trace.as_bytes(),
-        found.certificate.as_slice(),
-        19,
-    );
+    assert_accepts(rt.alloc(), &rt, trace.as_bytes(), &found, 19);
 }
 
 /// Asserts that nothing is written beside the report, in the case of this number.

@@ -1,7 +1,7 @@
 //! What is reported with a hint: it is the answer if it is a legal schedule, and else it turns no verdict.
 
 use crate::expectations::{ample, expect};
-use crate::long_traces::answers::{Answered, answer_with};
+use crate::long_traces::answers::{Answered, answer_of_survey, answer_with};
 use crate::long_traces::lying_surveyors::{Liar, Lie};
 use crate::long_traces::traces::{HAND_OFF, STORE_BUFFERING, with_many_writes};
 use schedule_text::schedule_fault::ScheduleCause;
@@ -29,10 +29,7 @@ const APART: &str = "vsc 1\nproc P\nW x 1\nproc Q\nW y 1\n";
 // The hint is the answer as it stands, before the surveyor is asked.
 #[test]
 fn answers_a_legal_hint(rt: HostRuntime) {
-    let liar = Liar {
-        lie: Lie::Schedule(1, 2),
-        otherwise: Lie::Nothing,
-    };
+    let liar = Liar::of(Lie::Schedule(1, 2));
     let found = answer_with(rt.alloc(), &rt, APART, "P.1\nQ.1\n", &liar, 10_000);
     assert_is(&rt, &found, Ok(Status::Yes), b"CONSISTENT\nP.1\nQ.1\n", 1);
     let found = answer_with(
@@ -82,8 +79,7 @@ fn long_hint(alloc: Global, rt: &impl Abort) -> String {
 fn a_legal_hint_needs_no_step(rt: HostRuntime) {
     let survey = BySaturation { budget: 0 };
     let long = ample(&rt, with_many_writes(rt.alloc(), HAND_OFF));
-    let found = answer_with(rt.alloc(), &rt, long.as_str(), "", &survey, 10_000);
-    expect(&rt, found.outcome == Ok(Status::Unknown), 5);
+    answer_of_survey(rt.alloc(), &rt, long.as_str(), 0, Status::Unknown, 5);
     let hint = long_hint(rt.alloc(), &rt);
     let found = answer_with(
         rt.alloc(),

@@ -28,6 +28,16 @@ pub struct Liar {
     pub otherwise: Lie,
 }
 
+impl Liar {
+    /// A surveyor that says this, and knows nothing otherwise.
+    pub fn of(lie: Lie) -> Liar {
+        Liar {
+            lie,
+            otherwise: Lie::Nothing,
+        }
+    }
+}
+
 /// The operation of P at this place.
 fn name_at(alloc: Global, place: u32) -> Result<OpName, AllocError> {
     Ok(OpName {

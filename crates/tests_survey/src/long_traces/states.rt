@@ -5,6 +5,7 @@ use crate::long_traces::beams::{drawn_log, is_legal};
 use numbered_log::{Budget, LocationId, NumberedLog, NumberedOrigin, OperationId};
 use state_search::{Breadth, schedule_by_states};
 use std::alloc::{AllocError, Global};
+use std::process::Abort;
 
 /// Searches the log with this breadth and this many steps. Returns whether a schedule was found, or none if what was found is wrong.
 fn is_found(
@@ -22,6 +23,19 @@ fn is_found(
     };
     let is_right = is_legal(alloc, log, schedule.as_slice())?;
     Ok(if is_right { Some(true) } else { None })
+}
+
+/// Asserts whether a broad search of this many steps finds a schedule of the log, in the case of this number.
+fn assert_found(
+    rt: &impl Abort,
+    alloc: Global,
+    log: &NumberedLog,
+    steps: u64,
+    is_wanted: bool,
+    number: usize,
+) {
+    let found = ample(rt, is_found(alloc, log, 2000, steps));
+    expect(rt, found == Some(is_wanted), number);
 }
 
 /// Returns whether of each of twenty runs of this many operations a schedule is found, if there are steps, and else of none.
@@ -66,11 +80,7 @@ fn a_narrow_search_schedules_some_runs(rt: HostRuntime) {
 fn the_log_without_operations_has_a_schedule(rt: HostRuntime) {
     let alloc = rt.alloc();
     let log = ample(&rt, NumberedLog::new(alloc, 0));
-    expect(
-        &rt,
-        ample(&rt, is_found(alloc, &log, 2000, 100)) == Some(true),
-        0,
-    );
+    assert_found(&rt, alloc, &log, 100, true, 0);
 }
 
 #[test]
@@ -78,26 +88,14 @@ fn a_value_that_nothing_leaves_is_no_final_value(rt: HostRuntime) {
     let alloc = rt.alloc();
     let mut log = ample(&rt, drawn_log(alloc, 1, 24));
     log.set_last(LocationId::FIRST, Some(99));
-    expect(
-        &rt,
-        ample(&rt, is_found(alloc, &log, 2000, 100_000_000)) == Some(false),
-        0,
-    );
+    assert_found(&rt, alloc, &log, 100_000_000, false, 0);
 }
 
 #[test]
 fn a_run_is_scheduled_unless_a_value_has_an_origin(rt: HostRuntime) {
     let alloc = rt.alloc();
     let mut log = ample(&rt, drawn_log(alloc, 1, 24));
-    expect(
-        &rt,
-        ample(&rt, is_found(alloc, &log, 2000, 100_000_000)) == Some(true),
-        0,
-    );
+    assert_found(&rt, alloc, &log, 100_000_000, true, 0);
     log.set_origin(OperationId::FIRST, NumberedOrigin::Initial);
-    expect(
-        &rt,
-        ample(&rt, is_found(alloc, &log, 2000, 100_000_000)) == Some(false),
-        1,
-    );
+    assert_found(&rt, alloc, &log, 100_000_000, false, 1);
 }

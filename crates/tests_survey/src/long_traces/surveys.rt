@@ -1,7 +1,7 @@
 //! What is reported of traces with the help of a survey, and of a surveyor that lies.
 
 use crate::expectations::{ample, expect};
-use crate::long_traces::answers::answer_with;
+use crate::long_traces::answers::{answer_of_survey, answer_with};
 use crate::long_traces::buffered_runs::buffered_run;
 use crate::long_traces::lying_surveyors::{Liar, Lie};
 use crate::long_traces::traces::{
@@ -64,10 +64,7 @@ fn decides_whatever_a_surveyor_says(rt: HostRuntime) {
         Lie::Nothing,
     ];
     for lie in lies {
-        let liar = Liar {
-            lie,
-            otherwise: Lie::Nothing,
-        };
+        let liar = Liar::of(lie);
         assert_reports(rt.alloc(), &rt, STORE_BUFFERING, &liar, CORE_OF_FOUR, 1);
         assert_reports(rt.alloc(), &rt, HAND_OFF, &liar, HANDED_OFF, 2);
         let long = ample(&rt, with_many_writes(rt.alloc(), STORE_BUFFERING));
@@ -105,10 +102,9 @@ fn says_how_far_it_came(rt: HostRuntime) {
 // The survey finds a schedule of a long trace, which a judge takes.
 #[test]
 fn finds_a_schedule_of_a_long_trace(rt: HostRuntime) {
-    let survey = BySaturation { budget: 1_000_000 };
     let long = ample(&rt, with_many_writes(rt.alloc(), HAND_OFF));
-    let found = answer_with(rt.alloc(), &rt, long.as_str(), "", &survey, 10_000);
-    expect(&rt, found.outcome == Ok(Status::Yes), 8);
+    let text = long.as_str();
+    let found = answer_of_survey(rt.alloc(), &rt, text, 1_000_000, Status::Yes, 8);
     let schedule = found.report.as_slice().strip_prefix(b"CONSISTENT\n");
     expect(&rt, schedule.is_some(), 8);
     let mut trace = ShortSource::new(long.as_bytes(), 99);
@@ -121,10 +117,9 @@ fn finds_a_schedule_of_a_long_trace(rt: HostRuntime) {
 // A lock that is acquired once too often: no small part shows it, and a survey that may take no step decides nothing.
 #[test]
 fn decides_nothing_without_a_step(rt: HostRuntime) {
-    let survey = BySaturation { budget: 0 };
     let lock = ample(&rt, counted_lock(rt.alloc()));
-    let found = answer_with(rt.alloc(), &rt, lock.as_str(), "", &survey, 10_000);
-    expect(&rt, found.outcome == Ok(Status::Unknown), 10);
+    let text = lock.as_str();
+    let found = answer_of_survey(rt.alloc(), &rt, text, 0, Status::Unknown, 10);
     let report = found.report.as_slice();
     expect(&rt, report.starts_with(b"UNKNOWN placed="), 10);
 }
@@ -183,10 +178,7 @@ fn certifies_what_a_long_walk_has_refuted(rt: HostRuntime) {
 // By hand: Q.1 reads what P.2 leaves, Q.2 the initial value that P.1 writes over, and no cycle is of these four. P.3 stands in a comment alone.
 #[test]
 fn names_the_operations_that_the_lines_name(rt: HostRuntime) {
-    let liar = Liar {
-        lie: Lie::Certificate(STALE_REASONS),
-        otherwise: Lie::Nothing,
-    };
+    let liar = Liar::of(Lie::Certificate(STALE_REASONS));
     let wanted = WantedReport {
         status: Status::No,
         report: b"INCONSISTENT operations=4 reasons=3\nP.1\nP.2\nQ.1\nQ.2\n",
