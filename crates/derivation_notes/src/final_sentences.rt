@@ -1,9 +1,7 @@
 //! Sentences on final values.
 
-use crate::standing_sentences::SentenceEnds;
 use crate::story::Phrase;
 use crate::telling::{Conclusion, Teller};
-use std::alloc::AllocError;
 use var_layout::candidate::FinalChoice;
 use var_layout::layout::Layout;
 
@@ -55,37 +53,5 @@ impl<'t> Teller<'t> {
         };
         self.story
             .say(&[Phrase::Whole(writer), Phrase::Words(words)]);
-    }
-
-    /// Says the clause that the other writer stands before the last one. It concludes that order; or, if the opposite order
-    /// is known, that `last` is not the last one; or a contradiction, if that is known to be it.
-    pub fn tell_before_last(
-        &mut self,
-        last: usize,
-        writer: usize,
-        conclusion: Conclusion,
-    ) -> Result<(), AllocError> {
-        if let Conclusion::Order(_, _) = conclusion {
-            self.story.say(&[
-                Phrase::Whole(writer),
-                Phrase::Words(b" stands before "),
-                Phrase::Name(last),
-                Phrase::Words(b", the last write there"),
-            ]);
-            return Ok(());
-        }
-        self.say_order(last, writer)?;
-        let ends = SentenceEnds {
-            contradiction: b", the last write there: contradiction",
-            otherwise: b", which so is not the last write there",
-        };
-        self.say_stands(
-            writer,
-            b" stands after ",
-            Phrase::Whole(last),
-            conclusion,
-            ends,
-        );
-        Ok(())
     }
 }

@@ -1,6 +1,6 @@
 //! Sentences on what is read from where.
 
-use crate::standing_sentences::SentenceEnds;
+use crate::standing_sentences::Standing;
 use crate::story::{Phrase, Story};
 use crate::telling::{Conclusion, Teller};
 use clause_meaning::meaning::ClauseMeaning;
@@ -9,6 +9,14 @@ use trace_semantics::operation::Origin;
 use var_layout::candidate::{Candidate, ReadsFromChoice};
 use var_layout::layout::Layout;
 use verdict_notes::origin_of;
+
+/// An operation that reads, its source, and a writer that may stand between them, by their numbers.
+#[derive(Clone, Copy)]
+struct BetweenWriter {
+    reader: usize,
+    source: usize,
+    writer: usize,
+}
 
 /// The choices of the reader, or none if the operation of this number reads nothing.
 fn choices_of(layout: &Layout, reader: usize) -> &[ReadsFromChoice] {
@@ -42,48 +50,45 @@ fn has_origin(story: &Story<'_>, number: usize) -> bool {
 }
 
 impl<'t> Teller<'t> {
-    /// Says a clause of what is read, or of final values.
+    /// Says a clause of what is read, or of final values. The conclusion is what the clause implies in the step at hand, where all its other literals are
+    /// known to be false. Clauses of order are said by `tell_orders`, so nothing is said of them here.
     pub fn tell_sources(
         &mut self,
-        meaning: &ClauseMeaning,
+        meaning: ClauseMeaning,
         conclusion: Conclusion,
     ) -> Result<(), AllocError> {
         match meaning {
-            ClauseMeaning::HasSource(reader) => {
-                self.tell_source(*reader, conclusion);
-                Ok(())
-            }
-            ClauseMeaning::NoSource { reader, .. } => {
-                self.tell_source(*reader, conclusion);
-                Ok(())
-            }
+            ClauseMeaning::HasSource(reader) => self.tell_source(reader, conclusion),
+            ClauseMeaning::NoSource { reader, .. } => self.tell_source(reader, conclusion),
             ClauseMeaning::BeforeWriter { reader, writer, .. } => {
-                self.tell_before_writer(*reader, *writer, conclusion)
+                self.tell_standing(Standing::BeforeWriter { reader, writer }, conclusion)?
             }
             ClauseMeaning::AfterSource { reader, source, .. } => {
-                self.tell_after_source(*reader, *source, conclusion)
+                self.tell_standing(Standing::AfterSource { reader, source }, conclusion)?
             }
             ClauseMeaning::NotBetween {
                 reader,
                 source,
                 writer,
                 ..
-            } => self.tell_not_between(*reader, *source, *writer, conclusion),
-            ClauseMeaning::HasLast(final_value) => {
-                self.tell_last(*final_value, conclusion);
-                Ok(())
+            } => {
+                let between = BetweenWriter {
+                    reader,
+                    source,
+                    writer,
+                };
+                self.tell_not_between(between, conclusion)?
             }
-            ClauseMeaning::NoLast { final_value, .. } => {
-                self.tell_last(*final_value, conclusion);
-                Ok(())
-            }
+            ClauseMeaning::HasLast(final_value) => self.tell_last(final_value, conclusion),
+            ClauseMeaning::NoLast { final_value, .. } => self.tell_last(final_value, conclusion),
             ClauseMeaning::BeforeLast { last, writer, .. } => {
-                self.tell_before_last(*last, *writer, conclusion)
+                self.tell_standing(Standing::BeforeLast { last, writer }, conclusion)?
             }
             ClauseMeaning::ProgramOrder(_)
             | ClauseMeaning::NoCycle { .. }
-            | ClauseMeaning::BeforePair(_, _) => Ok(()),
+            | ClauseMeaning::BeforePair(_, _) => {}
         }
+        Ok(())
     }
 
     /// Says why the reader reads from this candidate. `is_only` says that it has no other candidate at all; otherwise the others were ruled out
@@ -143,126 +148,53 @@ impl<'t> Teller<'t> {
         }
     }
 
-    /// Says the clause that a reader of the initial value stands before the writer.
-    fn tell_before_writer(
-        &mut self,
-        reader: usize,
-        writer: usize,
-        conclusion: Conclusion,
-    ) -> Result<(), AllocError> {
-        if let Conclusion::Order(_, _) = conclusion {
-            self.story.say(&[
-                Phrase::Name(reader),
-                Phrase::Words(b" reads the initial value, so "),
-                Phrase::Whole(writer),
-                Phrase::Words(b" stands after it"),
-            ]);
-            return Ok(());
-        }
-        self.say_order(writer, reader)?;
-        let ends = SentenceEnds {
-            contradiction: b", which reads the initial value: contradiction",
-            otherwise: b", which so does not read the initial value",
-        };
-        self.say_stands(
-            writer,
-            b" stands before ",
-            Phrase::Name(reader),
-            conclusion,
-            ends,
-        );
-        Ok(())
-    }
-
-    /// Says the clause that a reader stands after its source. If the source is known, that goes without saying.
-    fn tell_after_source(
-        &mut self,
-        reader: usize,
-        source: usize,
-        conclusion: Conclusion,
-    ) -> Result<(), AllocError> {
-        if let Conclusion::Order(_, _) = conclusion {
-            return Ok(());
-        }
-        self.say_order(reader, source)?;
-        let ends = SentenceEnds {
-            contradiction: b", from which it reads: contradiction",
-            otherwise: b", so it does not read from there",
-        };
-        self.say_stands(
-            reader,
-            b" stands before ",
-            Phrase::Whole(source),
-            conclusion,
-            ends,
-        );
-        Ok(())
-    }
-
     /// Says the clause that the writer does not stand between the source and the reader. An order that it concludes is one of two: that the writer
     /// stands before the source, or after the reader.
     fn tell_not_between(
         &mut self,
-        reader: usize,
-        source: usize,
-        writer: usize,
+        at: BetweenWriter,
         conclusion: Conclusion,
     ) -> Result<(), AllocError> {
         match conclusion {
-            Conclusion::Order(_, second) => {
-                self.say_pushed(reader, source, writer, second == source)
-            }
+            Conclusion::Order(_, second) => self.say_pushed(at, second == at.source),
             Conclusion::Contradiction => {
-                self.say_between(reader, source, writer)?;
-                self.story.say(&[
-                    Phrase::Whole(writer),
-                    Phrase::Words(b" stands between "),
-                    Phrase::Name(source),
-                    Phrase::Words(b" and "),
-                    Phrase::Name(reader),
-                    Phrase::Words(b": contradiction"),
-                ]);
-                Ok(())
+                self.say_between(at, Phrase::Name(at.reader), b": contradiction")
             }
-            Conclusion::Of(_) => {
-                self.say_between(reader, source, writer)?;
-                self.story.say(&[
-                    Phrase::Whole(writer),
-                    Phrase::Words(b" stands between "),
-                    Phrase::Name(source),
-                    Phrase::Words(b" and "),
-                    Phrase::Whole(reader),
-                    Phrase::Words(b", which so does not read from there"),
-                ]);
-                Ok(())
-            }
+            Conclusion::Of(_) => self.say_between(
+                at,
+                Phrase::Whole(at.reader),
+                b", which so does not read from there",
+            ),
         }
     }
 
-    /// Says in which order the writer stands between the source and the reader.
+    /// Says that the writer stands between the source and the reader, once it is said how it stands to each of them.
     fn say_between(
         &mut self,
-        reader: usize,
-        source: usize,
-        writer: usize,
+        at: BetweenWriter,
+        reader: Phrase<'static>,
+        end: &'static [u8],
     ) -> Result<(), AllocError> {
-        self.say_order(source, writer)?;
-        self.say_order(writer, reader)
+        self.say_order(at.source, at.writer)?;
+        self.say_order(at.writer, at.reader)?;
+        self.story.say(&[
+            Phrase::Whole(at.writer),
+            Phrase::Words(b" stands between "),
+            Phrase::Name(at.source),
+            Phrase::Words(b" and "),
+            reader,
+            Phrase::Words(end),
+        ]);
+        Ok(())
     }
 
     /// Says to which side of the source and the reader the writer is pushed. What is known is said first: a writer that stands before the reader is
     /// pushed before the source, and one that stands after the source is pushed after the reader.
-    fn say_pushed(
-        &mut self,
-        reader: usize,
-        source: usize,
-        writer: usize,
-        is_before_source: bool,
-    ) -> Result<(), AllocError> {
+    fn say_pushed(&mut self, at: BetweenWriter, is_before_source: bool) -> Result<(), AllocError> {
         if is_before_source {
-            self.say_order(writer, reader)?;
+            self.say_order(at.writer, at.reader)?;
         } else {
-            self.say_order(source, writer)?;
+            self.say_order(at.source, at.writer)?;
         }
         let known: &[u8] = if is_before_source {
             b", which stands before "
@@ -275,16 +207,16 @@ impl<'t> Teller<'t> {
             b", stands after "
         };
         let (near, far) = if is_before_source {
-            (reader, source)
+            (at.reader, at.source)
         } else {
-            (source, reader)
+            (at.source, at.reader)
         };
         self.story.say(&[
-            Phrase::Name(reader),
+            Phrase::Name(at.reader),
             Phrase::Words(b" reads from "),
-            Phrase::Name(source),
+            Phrase::Name(at.source),
             Phrase::Words(b", so "),
-            Phrase::Whole(writer),
+            Phrase::Whole(at.writer),
             Phrase::Words(known),
             Phrase::Name(near),
             Phrase::Words(told),

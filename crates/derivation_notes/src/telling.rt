@@ -351,7 +351,7 @@ impl<'t> Teller<'t> {
         match self.meanings.meaning_at(place) {
             Some(meaning) => {
                 self.tell_orders(meaning, literals, conclusion)?;
-                self.tell_sources(&meaning, conclusion)
+                self.tell_sources(meaning, conclusion)
             }
             None => Ok(()),
         }

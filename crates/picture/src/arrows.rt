@@ -3,7 +3,7 @@
 use crate::placement::Placement;
 use crate::routes::{Lanes, Route};
 use crate::svg_text::SvgText;
-use drawn_order::{ArrowKind, Exclusion, FoundOrder, OrderArrow, PictureItem};
+use drawn_order::{ArrowKind, Exclusion, OrderArrow, PictureItem};
 use note_text::decimal;
 use std::alloc::{AllocError, Global};
 
@@ -22,6 +22,8 @@ pub(crate) struct ArrowStyle {
 /// What arrows are drawn in.
 pub(crate) struct ArrowPage<'p, 't> {
     pub svg: &'p mut SvgText,
+    /// The boxes.
+    pub items: &'p [PictureItem<'t>],
     pub placement: &'p Placement<'t>,
     pub lanes: Lanes,
     pub is_schedule: bool,
@@ -32,6 +34,7 @@ impl Drop for ArrowPage<'_, '_> {
     fn drop(self) {
         let ArrowPage {
             svg: _,
+            items: _,
             placement: _,
             lanes: _lanes,
             is_schedule: _,
@@ -178,14 +181,10 @@ impl ArrowPage<'_, '_> {
     }
 
     /// Draws all arrows of the order. Those that are derived have numbers from 1, by the same count as `ReasonLines::add_orders` gives sentences.
-    pub fn draw_arrows(
-        &mut self,
-        alloc: Global,
-        items: &[PictureItem<'_>],
-        found: &FoundOrder,
-    ) -> Result<(), AllocError> {
+    pub fn draw_arrows(&mut self, alloc: Global, arrows: &[OrderArrow]) -> Result<(), AllocError> {
+        let items = self.items;
         let mut sentences: u64 = 0;
-        for arrow in &found.arrows {
+        for arrow in arrows {
             if is_shown(arrow) {
                 let number = match arrow.kind {
                     ArrowKind::Derived(_) => {
@@ -203,12 +202,8 @@ impl ArrowPage<'_, '_> {
     }
 
     /// Draws the arrow from a source that is excluded.
-    fn draw_exclusion(
-        &mut self,
-        alloc: Global,
-        items: &[PictureItem<'_>],
-        exclusion: &Exclusion,
-    ) -> Result<(), AllocError> {
+    fn draw_exclusion(&mut self, alloc: Global, exclusion: &Exclusion) -> Result<(), AllocError> {
+        let items = self.items;
         if let (Some(first), Some(second)) = (
             items.get(exclusion.writer),
             items.get(exclusion.reader),
@@ -224,13 +219,12 @@ impl ArrowPage<'_, '_> {
     pub fn draw_exclusions(
         &mut self,
         alloc: Global,
-        items: &[PictureItem<'_>],
-        found: &FoundOrder,
+        exclusions: &[Exclusion],
     ) -> Result<(), AllocError> {
         let mut drawn: usize = 0;
-        for exclusion in &found.exclusions {
+        for exclusion in exclusions {
             if exclusion.is_used && drawn < MOST_EXCLUDED {
-                self.draw_exclusion(alloc, items, exclusion)?;
+                self.draw_exclusion(alloc, exclusion)?;
                 drawn = drawn.saturating_add(1);
             }
         }

@@ -134,11 +134,12 @@ impl Content<'_, '_> {
         let mut page = ArrowPage {
             lanes: Lanes::new(alloc, placement)?,
             svg,
+            items: self.items,
             placement,
             is_schedule: self.subject.is_in_order(),
         };
-        page.draw_exclusions(alloc, self.items, self.found)?;
-        page.draw_arrows(alloc, self.items, self.found)
+        page.draw_exclusions(alloc, self.found.exclusions.as_slice())?;
+        page.draw_arrows(alloc, self.found.arrows.as_slice())
     }
 
     /// Draws boxes and arrows. Boxes come last, and cover what of an arrow lies below them.

@@ -12,17 +12,13 @@ const WIDTH: u64 = 640;
 
 const HEIGHT: u64 = 72;
 
-/// Why nothing is drawn.
+/// Why nothing is drawn of what a verdict rests on: a legal schedule, or else operations that contradict each other.
 #[derive(Clone, Copy)]
 pub(crate) enum NothingDrawn {
-    /// A legal schedule has this many operations, which are too many.
-    LongSchedule(u64),
-    /// There is a legal schedule, and the survey for the picture found none.
-    NoSchedule,
-    /// This number of operations contradict each other, which are too many.
-    LargeCore(u64),
-    /// There is no legal schedule, and the survey for the picture found no few operations without one.
-    NoCore,
+    /// It has this many operations, which are too many.
+    TooMany(u64),
+    /// The survey for the picture found none, or none of few operations.
+    NotFound,
 }
 
 /// Adds the line of the note, below the title. Each of these pictures has one, so its place is fixed.
@@ -40,38 +36,52 @@ fn note_too_many(svg: &mut SvgText, before: &[u8], count: u64, between: &[u8]) {
     );
 }
 
+/// Adds that what was found has this many operations, which are too many.
+fn note_size(svg: &mut SvgText, is_consistent: bool, count: u64) {
+    let (before, between): (&[u8], &[u8]) = if is_consistent {
+        (
+            b"A schedule of ",
+            b" operations is too long for a picture, which has at most ",
+        )
+    } else {
+        (
+            b"The reason that was found has ",
+            b" operations, which are too many for a picture: it has at most ",
+        )
+    };
+    note_too_many(svg, before, count, between);
+}
+
+/// Adds that the survey found nothing to draw.
+fn note_not_found(svg: &mut SvgText, is_consistent: bool) {
+    let wanted: &[u8] = if is_consistent {
+        b"schedule to draw."
+    } else {
+        b"few operations that show it."
+    };
+    note_line(
+        svg,
+        &[b"The short survey for the picture found no ", wanted],
+    );
+}
+
 /// Draws what is answered, and why nothing else is drawn.
-pub(crate) fn draw_message(alloc: Global, why: NothingDrawn) -> Result<Vec<u8>, AllocError> {
+pub(crate) fn draw_message(
+    alloc: Global,
+    is_consistent: bool,
+    why: NothingDrawn,
+) -> Result<Vec<u8>, AllocError> {
     let mut svg = SvgText::new(alloc);
     begin_document(&mut svg, WIDTH, HEIGHT);
-    let title: &[u8] = match why {
-        NothingDrawn::LongSchedule(_) => b"CONSISTENT",
-        NothingDrawn::NoSchedule => b"CONSISTENT",
-        NothingDrawn::LargeCore(_) => b"INCONSISTENT",
-        NothingDrawn::NoCore => b"INCONSISTENT",
+    let title: &[u8] = if is_consistent {
+        b"CONSISTENT"
+    } else {
+        b"INCONSISTENT"
     };
     svg.line_of_text(b"title", MARGIN, 34, &[title]);
     match why {
-        NothingDrawn::LongSchedule(count) => note_too_many(
-            &mut svg,
-            b"A schedule of ",
-            count,
-            b" operations is too long for a picture, which has at most ",
-        ),
-        NothingDrawn::NoSchedule => note_line(
-            &mut svg,
-            &[b"The short survey for the picture found no schedule to draw."],
-        ),
-        NothingDrawn::LargeCore(count) => note_too_many(
-            &mut svg,
-            b"The reason that was found has ",
-            count,
-            b" operations, which are too many for a picture: it has at most ",
-        ),
-        NothingDrawn::NoCore => note_line(
-            &mut svg,
-            &[b"The short survey for the picture found no few operations that show it."],
-        ),
+        NothingDrawn::TooMany(count) => note_size(&mut svg, is_consistent, count),
+        NothingDrawn::NotFound => note_not_found(&mut svg, is_consistent),
     }
     svg.add(&[b"</svg>\n"]);
     svg.into_bytes()

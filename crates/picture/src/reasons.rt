@@ -75,6 +75,11 @@ impl Told<'_, '_> {
         text.add(&[more]);
     }
 
+    /// Adds that the first of two boxes comes before the second, with words behind that.
+    fn add_before(&self, text: &mut GrowingText, first: usize, second: usize, more: &[u8]) {
+        self.add_names(text, first, b" comes before ", second, more);
+    }
+
     /// Adds the location of the box.
     fn add_location(&self, text: &mut GrowingText, number: usize) {
         if let Some(item) = self.items.get(number) {
@@ -214,32 +219,19 @@ impl Told<'_, '_> {
         text.add(&[decimal(number).as_slice(), b": "]);
         match by.rule {
             DerivedRule::AfterSource => {
-                self.add_names(
-                    &mut text,
-                    by.reader,
-                    b" comes before ",
-                    by.other,
-                    b", since ",
-                );
+                self.add_before(&mut text, by.reader, by.other, b", since ");
                 self.add_reading(&mut text, by.reader, by.writer);
                 self.add_names(&mut text, by.other, b" overwrites ", by.writer, b"");
             }
             DerivedRule::BeforeReader => {
-                self.add_names(
-                    &mut text,
-                    by.other,
-                    b" comes before ",
-                    by.writer,
-                    b", since ",
-                );
+                self.add_before(&mut text, by.other, by.writer, b", since ");
                 self.add_reading(&mut text, by.reader, by.writer);
                 self.add_names(&mut text, by.other, b" writes it before ", by.reader, b"");
             }
             DerivedRule::LastWrite => {
-                self.add_names(
+                self.add_before(
                     &mut text,
                     by.other,
-                    b" comes before ",
                     by.writer,
                     b", which leaves the final value of ",
                 );

@@ -160,27 +160,37 @@ fn distance_from_middle(goes_right: bool) -> u64 {
     if goes_right { 2 } else { 8 }
 }
 
+/// The side of a box, the right one or the left one.
+fn side_of(edges: BoxEdges, is_right: bool) -> u64 {
+    if is_right { edges.right } else { edges.left }
+}
+
 /// The point at which an arrow leaves a box, to the right or to the left.
 fn exit_of(edges: BoxEdges, goes_right: bool) -> RoutePoint {
+    let distance = distance_from_middle(goes_right);
     RoutePoint {
-        x: if goes_right { edges.right } else { edges.left },
-        y: edges
-            .middle()
-            .saturating_add(distance_from_middle(goes_right)),
+        x: side_of(edges, goes_right),
+        y: edges.middle().saturating_add(distance),
     }
 }
 
 /// The point at which an arrow that leads to the right or to the left comes to a box.
 fn entry_of(edges: BoxEdges, goes_right: bool) -> RoutePoint {
+    let distance = distance_from_middle(goes_right);
     RoutePoint {
-        x: if goes_right { edges.left } else { edges.right },
-        y: edges
-            .middle()
-            .saturating_sub(distance_from_middle(goes_right)),
+        x: side_of(edges, !goes_right),
+        y: edges.middle().saturating_sub(distance),
     }
 }
 
 impl Route {
+    /// The way through these points.
+    fn through(alloc: Global, points: &[RoutePoint]) -> Result<Route, AllocError> {
+        let mut places = Vec::new(alloc);
+        places.extend_from_slice(points)?;
+        Ok(Route { places })
+    }
+
     /// A way that leaves at the first place and goes to a line down, along it, and to the last place.
     fn by_one_line(
         alloc: Global,
@@ -188,12 +198,9 @@ impl Route {
         x: u64,
         end: RoutePoint,
     ) -> Result<Route, AllocError> {
-        let mut places = Vec::new(alloc);
-        places.push(start)?;
-        places.push(RoutePoint { x, y: start.y })?;
-        places.push(RoutePoint { x, y: end.y })?;
-        places.push(end)?;
-        Ok(Route { places })
+        let turn = RoutePoint { x, y: start.y };
+        let last = RoutePoint { x, y: end.y };
+        Route::through(alloc, &[start, turn, last, end])
     }
 
     /// A way by two lines down, and one across between them.
@@ -205,40 +212,40 @@ impl Route {
         second: u64,
         end: RoutePoint,
     ) -> Result<Route, AllocError> {
-        let mut places = Vec::new(alloc);
-        places.push(start)?;
-        places.push(RoutePoint {
-            x: first,
-            y: start.y,
-        })?;
-        places.push(RoutePoint {
-            x: first,
-            y: across,
-        })?;
-        places.push(RoutePoint {
-            x: second,
-            y: across,
-        })?;
-        places.push(RoutePoint {
-            x: second,
-            y: end.y,
-        })?;
-        places.push(end)?;
-        Ok(Route { places })
+        let corners = [
+            start,
+            RoutePoint {
+                x: first,
+                y: start.y,
+            },
+            RoutePoint {
+                x: first,
+                y: across,
+            },
+            RoutePoint {
+                x: second,
+                y: across,
+            },
+            RoutePoint {
+                x: second,
+                y: end.y,
+            },
+            end,
+        ];
+        Route::through(alloc, &corners)
     }
 
     /// The straight way down from the one box to the other.
     pub fn down(alloc: Global, from: BoxEdges, to: BoxEdges) -> Result<Route, AllocError> {
-        let mut places = Vec::new(alloc);
-        places.push(RoutePoint {
+        let start = RoutePoint {
             x: from.center(),
             y: from.bottom,
-        })?;
-        places.push(RoutePoint {
+        };
+        let end = RoutePoint {
             x: to.center(),
             y: to.top,
-        })?;
-        Ok(Route { places })
+        };
+        Route::through(alloc, &[start, end])
     }
 
     /// The way from the side of the one box to the side of the other; between boxes of one column it leaves and comes in on the right. In the

@@ -56,7 +56,7 @@ fn draw_schedule(
     let schedule = Schedule::new(names);
     match judge(alloc, part.trace, &schedule)? {
         Judgement::Legal => draw_legal(alloc, part, places, &schedule),
-        Judgement::Illegal(_, _) => draw_message(alloc, NothingDrawn::NoSchedule),
+        Judgement::Illegal(_, _) => draw_message(alloc, true, NothingDrawn::NotFound),
     }
 }
 
@@ -70,7 +70,7 @@ fn draw_choice(
 ) -> Result<Vec<u8>, AllocError> {
     let count = choice.count() as u64;
     if count > MAX_DRAWN {
-        return draw_message(alloc, NothingDrawn::LargeCore(count));
+        return draw_message(alloc, false, NothingDrawn::TooMany(count));
     }
     let drawn = DrawnPart::of(alloc, part, choice)?;
     let found = drawn.saturate(alloc)?;
@@ -97,7 +97,7 @@ fn draw_whole(
         return draw_choice(alloc, part, places, PictureSubject::TooFew, &mut choice);
     }
     if count_all(part.trace) > MAX_OF_WHOLE {
-        return draw_message(alloc, NothingDrawn::NoCore);
+        return draw_message(alloc, false, NothingDrawn::NotFound);
     }
     let mut choice = DrawnChoice::of_all(alloc, part.trace)?;
     draw_choice(alloc, part, places, PictureSubject::Whole, &mut choice)
@@ -117,7 +117,7 @@ fn draw_finding(
             let mut choice = DrawnChoice::of_names(alloc, part.trace, names.as_slice())?;
             draw_choice(alloc, part, places, PictureSubject::Core, &mut choice)
         }
-        _ if is_consistent => draw_message(alloc, NothingDrawn::NoSchedule),
+        _ if is_consistent => draw_message(alloc, true, NothingDrawn::NotFound),
         _ => draw_whole(alloc, part, places),
     }
 }
@@ -139,7 +139,7 @@ pub fn draw_verdict<S: Surveyor>(
     let count = count_all(trace);
     // All operations of a schedule are drawn, so no survey is needed to see that they are too many. A core may be small all the same.
     if is_consistent && count > MAX_DRAWN {
-        return draw_message(alloc, NothingDrawn::LongSchedule(count));
+        return draw_message(alloc, true, NothingDrawn::TooMany(count));
     }
     let Overview {
         finding,

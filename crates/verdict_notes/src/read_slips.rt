@@ -91,6 +91,14 @@ impl FoundWriter {
     }
 }
 
+/// The notes that are added to, and the trace that they speak of.
+#[derive(Drop)]
+struct SlipNotes<'n, 't> {
+    alloc: Global,
+    notes: &'n mut Notes,
+    shown: ShownTrace<'t>,
+}
+
 /// Adds the name of the writer.
 fn add_writer(sentence: &mut Sentence, shown: ShownTrace<'_>, writer: PlacedWriter) {
     if let Some(process) = shown.trace.processes().get(writer.number) {
@@ -111,78 +119,62 @@ fn add_origin(sentence: &mut Sentence, shown: ShownTrace<'_>, wanted: WriterWant
     }
 }
 
-/// Notes that the location near this one may be meant.
-fn note_near_location(
-    alloc: Global,
-    notes: &mut Notes,
-    shown: ShownTrace<'_>,
-    location: &[u8],
-    near: &[u8],
-) {
-    let mut sentence = Sentence::new(alloc);
-    sentence.add(&[b"is ", location, b" meant to be ", near]);
-    let wanted = WriterWanted {
-        location: Some(near),
-        value: None,
-    };
-    add_origin(&mut sentence, shown, wanted);
-    sentence.note(notes);
-}
-
-/// Notes that the value near this one may be meant, which the location gets.
-fn note_near_value(
-    alloc: Global,
-    notes: &mut Notes,
-    shown: ShownTrace<'_>,
-    location: &[u8],
-    value: u64,
-    near: u64,
-) {
-    let mut sentence = Sentence::new(alloc);
-    sentence.add(&[b"is "]);
-    sentence.add_value(value);
-    sentence.add(&[b" meant to be "]);
-    sentence.add_value(near);
-    let wanted = WriterWanted {
-        location: Some(location),
-        value: Some(near),
-    };
-    add_origin(&mut sentence, shown, wanted);
-    sentence.note(notes);
-}
-
-/// Notes that one operation alone writes the value, to another location than this: if several do, none is plainly meant. The answer is whether it is so.
-fn note_only_writer(
-    alloc: Global,
-    notes: &mut Notes,
-    shown: ShownTrace<'_>,
-    location: &[u8],
-    value: u64,
-) -> bool {
-    let wanted = WriterWanted {
-        location: None,
-        value: Some(value),
-    };
-    let FoundWriter::One(writer) = wanted.found(shown.trace) else {
-        return false;
-    };
-    let Some(process) = shown.trace.processes().get(writer.number) else {
-        return false;
-    };
-    let Some(op) = process.operations.as_slice().get(writer.k) else {
-        return false;
-    };
-    let written = op.location().as_bytes();
-    if written == location {
-        return false;
+impl SlipNotes<'_, '_> {
+    /// Notes that the location near this one may be meant.
+    fn note_near_location(&mut self, location: &[u8], near: &[u8]) {
+        let mut sentence = Sentence::new(self.alloc);
+        sentence.add(&[b"is ", location, b" meant to be ", near]);
+        let wanted = WriterWanted {
+            location: Some(near),
+            value: None,
+        };
+        add_origin(&mut sentence, self.shown, wanted);
+        sentence.note(self.notes);
     }
-    let mut sentence = Sentence::new(alloc);
-    sentence.add_value(value);
-    sentence.add(&[b" is written by "]);
-    add_writer(&mut sentence, shown, writer);
-    sentence.add(&[b" alone, to ", written]);
-    sentence.note(notes);
-    true
+
+    /// Notes that the value near this one may be meant, which the location gets.
+    fn note_near_value(&mut self, location: &[u8], value: u64, near: u64) {
+        let mut sentence = Sentence::new(self.alloc);
+        sentence.add(&[b"is "]);
+        sentence.add_value(value);
+        sentence.add(&[b" meant to be "]);
+        sentence.add_value(near);
+        let wanted = WriterWanted {
+            location: Some(location),
+            value: Some(near),
+        };
+        add_origin(&mut sentence, self.shown, wanted);
+        sentence.note(self.notes);
+    }
+
+    /// Notes that one operation alone writes the value, to another location than this: if several do, none is plainly meant. The answer is whether it
+    /// is so.
+    fn note_only_writer(&mut self, location: &[u8], value: u64) -> bool {
+        let wanted = WriterWanted {
+            location: None,
+            value: Some(value),
+        };
+        let FoundWriter::One(writer) = wanted.found(self.shown.trace) else {
+            return false;
+        };
+        let Some(process) = self.shown.trace.processes().get(writer.number) else {
+            return false;
+        };
+        let Some(op) = process.operations.as_slice().get(writer.k) else {
+            return false;
+        };
+        let written = op.location().as_bytes();
+        if written == location {
+            return false;
+        }
+        let mut sentence = Sentence::new(self.alloc);
+        sentence.add_value(value);
+        sentence.add(&[b" is written by "]);
+        add_writer(&mut sentence, self.shown, writer);
+        sentence.add(&[b" alone, to ", written]);
+        sentence.note(self.notes);
+        true
+    }
 }
 
 /// Returns whether the location gets no value at all.
@@ -223,18 +215,22 @@ pub fn note_slip(
         return false;
     };
     let trace = reader.trace;
-    let shown = ShownTrace { trace, places };
+    let mut slips = SlipNotes {
+        alloc,
+        notes,
+        shown: ShownTrace { trace, places },
+    };
     let location = reader.op.location().as_bytes();
     if let Some(near) = meant_location(trace, location, value) {
-        note_near_location(alloc, notes, shown, location, near);
+        slips.note_near_location(location, near);
         return true;
     }
-    if note_only_writer(alloc, notes, shown, location, value) {
+    if slips.note_only_writer(location, value) {
         return true;
     }
     match near_value(trace, location, value) {
         Some(near) => {
-            note_near_value(alloc, notes, shown, location, value, near);
+            slips.note_near_value(location, value, near);
             true
         }
         None => false,
@@ -251,7 +247,11 @@ pub fn note_final_slip(
     value: u64,
 ) {
     if let Some(near) = meant_location(trace, location, value) {
-        let shown = ShownTrace { trace, places };
-        note_near_location(alloc, notes, shown, location, near);
+        let mut slips = SlipNotes {
+            alloc,
+            notes,
+            shown: ShownTrace { trace, places },
+        };
+        slips.note_near_location(location, near);
     }
 }
