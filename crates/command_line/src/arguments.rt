@@ -3,28 +3,34 @@
 ghost use Rattle.std.specs.Prelude.{◌≡◌, IfOk, IsSome, Some, codes, false, option_map};
 ghost use Rattle.clap.specs.Values.{bool_text};
 ghost use Rattle.clap.specs.Walk.{texts};
-ghost use Rattle.clap.specs.Words.{first_value, found_of, rule_of};
+ghost use Rattle.clap.specs.Words.{first_value, found_of, new_rule, rule_of};
 ghost use Rattle.command_line.specs.Arguments.{HasFlag, all_texts};
 ghost use Rattle.command_line.specs.CommandLine.{flag_rule, optional_path, picture_rule, progress_rule, required_path, required_paths};
 
 use clap::{Arg, ArgAction, ArgMatches};
 use std::alloc::{AllocError, Global};
 
-const TRACE: &str = "A file with a trace: what each process wrote and read";
+/// What the help of most commands says of TRACE.
+pub const TRACE_HELP: &str = "A file with a trace: what each process wrote and read";
 
-const PROGRESS: &str = "Says on standard error how far the search is";
+const PROGRESS_HELP: &str = "Says on standard error how far the search is";
 
-const PICTURE: &str = "Draws the answer into FILE, as SVG for a browser";
+const PICTURE_HELP: &str = "Draws the answer into FILE, as SVG for a browser";
+
+// An argument that takes one value, which usage and help name so.
+fn valued_argument<'a>(alloc: Global, id: &'a str, value_name: &'a str, help: &'a str) -> Arg<'a>
+    ensures rule { rule_of result ≡ record (new_rule id.entry.now) { value_names = 1 } }
+    ensures local { result.global ≡ false }
+{
+    Arg::new(alloc, id).value_name(value_name).help(help)
+}
 
 /// An argument that is the path of a file. It stands at its place and has to be given.
 pub fn path_argument<'a>(alloc: Global, id: &'a str, value_name: &'a str, help: &'a str) -> Arg<'a>
     ensures rule { rule_of result ≡ required_path id.entry.now }
     ensures local { result.global ≡ false }
 {
-    Arg::new(alloc, id)
-        .required(true)
-        .value_name(value_name)
-        .help(help)
+    valued_argument(alloc, id, value_name, help).required(true)
 }
 
 /// An argument that is the paths of one file or more. They stand at its place, and one has to be given.
@@ -45,10 +51,7 @@ pub fn optional_path_argument<'a>(
     ensures rule { rule_of result ≡ optional_path id.entry.now }
     ensures local { result.global ≡ false }
 {
-    Arg::new(alloc, id)
-        .long(id)
-        .value_name(value_name)
-        .help(help)
+    valued_argument(alloc, id, value_name, help).long(id)
 }
 
 /// A flag, which is given by this name.
@@ -67,7 +70,7 @@ pub fn trace_argument<'a>(alloc: Global) -> Arg<'a>
     ensures rule { rule_of result ≡ required_path (codes "trace") }
     ensures local { result.global ≡ false }
 {
-    path_argument(alloc, "trace", "TRACE", TRACE)
+    path_argument(alloc, "trace", "TRACE", TRACE_HELP)
 }
 
 /// `--progress`.
@@ -75,7 +78,7 @@ pub fn progress_argument<'a>(alloc: Global) -> Arg<'a>
     ensures rule { rule_of result ≡ progress_rule }
     ensures local { result.global ≡ false }
 {
-    flag_argument(alloc, "progress", "progress", PROGRESS)
+    flag_argument(alloc, "progress", "progress", PROGRESS_HELP)
 }
 
 /// `--picture FILE`.
@@ -83,7 +86,7 @@ pub fn picture_argument<'a>(alloc: Global) -> Arg<'a>
     ensures rule { rule_of result ≡ picture_rule }
     ensures local { result.global ≡ false }
 {
-    optional_path_argument(alloc, "picture", "FILE", PICTURE)
+    optional_path_argument(alloc, "picture", "FILE", PICTURE_HELP)
 }
 
 /// The text of an argument, where one was given.

@@ -11,7 +11,7 @@ ghost use Rattle.command_line.specs.CommandLine.{AsksWith, batch_app};
 use crate::arguments::{
     flag_argument, flag_of, optional_path_argument, optional_text_of, paths_argument, texts_of,
 };
-use crate::building::{CommandHelp, command_of_two, with_two};
+use crate::building::{CommandHelp, new_command, with_two};
 use crate::line::{BatchNumbers, BatchOutput, CommandLine, Line, command_line_of};
 use crate::line_fault::LineFault;
 use crate::numbers::{
@@ -20,10 +20,10 @@ use crate::numbers::{
 use clap::{ArgMatches, Command};
 use std::alloc::{AllocError, Global};
 
-const ABOUT: &str = "Decides many traces of one file or more, a line for each";
-
-const AFTER_HELP: &str =
-    "A trace begins at each line whose first word is 'vsc'. The line for a trace is
+const HELP: CommandHelp = CommandHelp {
+    name: "batch",
+    about: "Decides many traces of one file or more, a line for each",
+    example: "A trace begins at each line whose first word is 'vsc'. The line for a trace is
 its file, a colon, its number in the file, a blank, and one of
     CONSISTENT
     INCONSISTENT cubes=N, or operations=N and more for a long trace
@@ -47,38 +47,34 @@ Exit status, of which the first of 4, 1, 2, 3 counts:
     1  an answer is INCONSISTENT
     2  the command line, a file or a trace is refused
     3  an answer is UNKNOWN
-    4  a file or a standard stream failed";
+    4  a file or a standard stream failed",
+};
 
-const FILES: &str = "Files with traces, one after the other";
+const FILES_HELP: &str = "Files with traces, one after the other";
 
-const WORKERS: &str = "How many threads decide traces, 1 to 8";
+const WORKERS_HELP: &str = "How many threads decide traces, 1 to 8";
 
-const JSON: &str = "Writes each line as an object of JSON";
+const JSON_HELP: &str = "Writes each line as an object of JSON";
 
-const SCHEDULES: &str = "Puts the schedule of each CONSISTENT into its object";
+const SCHEDULES_HELP: &str = "Puts the schedule of each CONSISTENT into its object";
 
-const KEEP: &str = "Keeps what shows an INCONSISTENT in FOLDER, new or empty";
+const KEEP_HELP: &str = "Keeps what shows an INCONSISTENT in FOLDER, new or empty";
 
 /// The command, as `clap` takes it.
 pub fn new_batch_command<'a>(alloc: Global) -> Result<Command<'a>, AllocError>
     ensures app { IfOk result (λ c. app_of c ≡ batch_app) }
     ensures local { IfOk result (λ c. (out-Command c).has_globals ≡ false) }
 {
-    let traces = paths_argument(alloc, "traces", "FILE", FILES);
-    let workers = workers_argument(alloc, WORKERS);
-    let help = CommandHelp {
-        name: "batch",
-        about: ABOUT,
-        example: AFTER_HELP,
-    };
-    let command = command_of_two(alloc, help, traces, workers)?;
+    let traces = paths_argument(alloc, "traces", "FILE", FILES_HELP);
+    let workers = workers_argument(alloc, WORKERS_HELP);
+    let command = with_two(new_command(alloc, HELP), traces, workers)?;
     let split = split_argument(alloc);
     let budget = budget_argument(alloc);
     let command = with_two(command, split, budget)?;
-    let json = flag_argument(alloc, "json", "json", JSON);
-    let schedules = flag_argument(alloc, "schedules", "schedules", SCHEDULES);
+    let json = flag_argument(alloc, "json", "json", JSON_HELP);
+    let schedules = flag_argument(alloc, "schedules", "schedules", SCHEDULES_HELP);
     let command = with_two(command, json, schedules)?;
-    let keep = optional_path_argument(alloc, "keep", "FOLDER", KEEP);
+    let keep = optional_path_argument(alloc, "keep", "FOLDER", KEEP_HELP);
     command.arg(keep)
 }
 

@@ -1,7 +1,6 @@
 //! How commands are put together.
 //!
-//! That a call of `arg` adds its argument, and no other, is proved by hand each time. So it is done here, for two or three at a time: most commands have no
-//! more of their own, and `verify`, `survey` and `batch` go on with `with_two`.
+//! That a call of `arg` adds its argument, and no other, is proved by hand each time. So it is done here, for two at a time.
 
 ghost use Rattle.std.specs.Prelude.{◌≡◌, ◌||◌, IfOk, false};
 ghost use Rattle.clap.specs.Words.{app_of, new_app, rule_of, with_rule};
@@ -23,6 +22,16 @@ pub struct CommandHelp<'a> {
     pub example: &'a str,
 }
 
+/// A command of this name, which has no argument yet.
+pub fn new_command<'a>(alloc: Global, help: CommandHelp<'a>) -> Command<'a>
+    ensures app { app_of result ≡ new_app help.entry.name.now }
+    ensures local { (out-Command result).has_globals ≡ false }
+{
+    Command::new(alloc, help.name)
+        .about(help.about)
+        .after_help(help.example)
+}
+
 /// The command with two more arguments.
 pub fn with_two<'a>(
     command: Command<'a>,
@@ -35,42 +44,6 @@ pub fn with_two<'a>(
     ensures globals { IfOk result (λ c. (out-Command c).has_globals ≡ (out-Command command.entry).has_globals) }
 {
     command.arg(first)?.arg(second)
-}
-
-/// A command of this name with two arguments.
-pub fn command_of_two<'a>(
-    alloc: Global,
-    help: CommandHelp<'a>,
-    first: Arg<'a>,
-    second: Arg<'a>,
-) -> Result<Command<'a>, AllocError>
-    requires first { first.global ≡ false }
-    requires second { second.global ≡ false }
-    ensures app { IfOk result (λ c. app_of c ≡ with_rule (with_rule (new_app help.entry.name.now) (rule_of first.entry)) (rule_of second.entry)) }
-    ensures local { IfOk result (λ c. (out-Command c).has_globals ≡ false) }
-{
-    let command = Command::new(alloc, help.name)
-        .about(help.about)
-        .after_help(help.example);
-    with_two(command, first, second)
-}
-
-/// A command of this name with three arguments.
-pub fn command_of_three<'a>(
-    alloc: Global,
-    help: CommandHelp<'a>,
-    first: Arg<'a>,
-    second: Arg<'a>,
-    third: Arg<'a>,
-) -> Result<Command<'a>, AllocError>
-    requires first { first.global ≡ false }
-    requires second { second.global ≡ false }
-    requires third { third.global ≡ false }
-    ensures app { IfOk result (λ c. app_of c ≡ with_rule (with_rule (with_rule (new_app help.entry.name.now) (rule_of first.entry)) (rule_of second.entry)) (rule_of third.entry)) }
-    ensures local { IfOk result (λ c. (out-Command c).has_globals ≡ false) }
-{
-    let command = command_of_two(alloc, help, first, second)?;
-    command.arg(third)
 }
 
 /// The command with `--explain` and `--no-explain`, which each command has, and what its help says of the first.

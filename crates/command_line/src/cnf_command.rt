@@ -7,16 +7,16 @@ ghost use Rattle.command_line.specs.CommandLine.{AsksWith, cnf_app};
 ghost use Rattle.command_line.specs.Arguments.{HasFlag, HasWorkers, all_texts};
 
 use crate::arguments::{text_of, trace_argument};
-use crate::building::{CommandHelp, command_of_two};
+use crate::building::{CommandHelp, new_command, with_two};
 use crate::line::{CommandLine, Line, command_line_of};
 use crate::numbers::{workers_argument, workers_of};
 use clap::{ArgMatches, Command};
 use std::alloc::{AllocError, Global};
 
-const ABOUT: &str = "Writes the formula of a trace as DIMACS text";
-
-const AFTER_HELP: &str =
-    "The text goes to standard output. The trace alone fixes it. If TRACE is '-',
+const HELP: CommandHelp = CommandHelp {
+    name: "cnf",
+    about: "Writes the formula of a trace as DIMACS text",
+    example: "The text goes to standard output. The trace alone fixes it. If TRACE is '-',
 standard input is read.
 
 Example, which can be pasted:
@@ -29,7 +29,10 @@ Its text is:
 Exit status:
     0  the text was written
     2  the command line or the trace is refused
-    4  a file or a standard stream failed";
+    4  a file or a standard stream failed",
+};
+
+const WORKERS_HELP: &str = "How many threads may make the text, 1 to 8";
 
 /// The command, as `clap` takes it.
 pub fn new_cnf_command<'a>(alloc: Global) -> Result<Command<'a>, AllocError>
@@ -37,13 +40,8 @@ pub fn new_cnf_command<'a>(alloc: Global) -> Result<Command<'a>, AllocError>
     ensures local { IfOk result (λ c. (out-Command c).has_globals ≡ false) }
 {
     let trace = trace_argument(alloc);
-    let workers = workers_argument(alloc, "How many threads may make the text, 1 to 8");
-    let help = CommandHelp {
-        name: "cnf",
-        about: ABOUT,
-        example: AFTER_HELP,
-    };
-    command_of_two(alloc, help, trace, workers)
+    let workers = workers_argument(alloc, WORKERS_HELP);
+    with_two(new_command(alloc, HELP), trace, workers)
 }
 
 /// Gives what the matches of the command ask for.

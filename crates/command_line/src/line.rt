@@ -9,12 +9,10 @@ ghost use Rattle.command_line.specs.CommandLine.{Asks, AsksFor, AsksWith, IsFaul
 use crate::arguments::optional_text_of;
 use crate::batch_command::batch_line;
 use crate::cnf_command::cnf_line;
-use crate::decode_command::decode_line;
 use crate::explains::{Explains, explains_of};
-use crate::judge_command::judge_line;
 use crate::line_fault::LineFault;
-use crate::lrat_command::lrat_line;
 use crate::part_command::part_line;
+use crate::path_commands::{decode_line, judge_line, lrat_line};
 use crate::program::new_program;
 use crate::recheck_command::recheck_line;
 use crate::refusals_command::refusals_line;

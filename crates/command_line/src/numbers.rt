@@ -10,11 +10,11 @@ use clap::{Arg, ArgMatches};
 use std::alloc::Global;
 
 /// What the help of `verify` and `survey` says of `--workers`.
-pub const SEARCHERS: &str = "How many threads may search, 1 to 8";
+pub const SEARCHERS_HELP: &str = "How many threads may search, 1 to 8";
 
-const SPLIT: &str = "Splits first into 2^N cubes, 0 to 10";
+const SPLIT_HELP: &str = "Splits first into 2^N cubes, 0 to 10";
 
-const BUDGET: &str = "Most conflicts a cube, 0 to 1000000000";
+const BUDGET_HELP: &str = "Most conflicts a cube, 0 to 1000000000";
 
 /// `--workers N`.
 pub fn workers_argument<'a>(alloc: Global, help: &'a str) -> Arg<'a>
@@ -54,7 +54,7 @@ pub fn split_argument<'a>(alloc: Global) -> Arg<'a>
     ensures rule { rule_of result ≡ split_rule }
     ensures local { result.global ≡ false }
 {
-    number_argument(alloc, "split", "3", 0, 10, SPLIT)
+    number_argument(alloc, "split", "3", 0, 10, SPLIT_HELP)
 }
 
 /// `--budget N`.
@@ -62,7 +62,7 @@ pub fn budget_argument<'a>(alloc: Global) -> Arg<'a>
     ensures rule { rule_of result ≡ budget_rule }
     ensures local { result.global ≡ false }
 {
-    number_argument(alloc, "budget", "100000", 0, 1_000_000_000, BUDGET)
+    number_argument(alloc, "budget", "100000", 0, 1_000_000_000, BUDGET_HELP)
 }
 
 /// The number of workers that was given, or else the one that stands for it.

@@ -6,16 +6,18 @@ ghost use Rattle.clap.specs.declared.builder.command.Command.TheViews.{out-Comma
 ghost use Rattle.command_line.specs.Arguments.{HasFlag, all_texts};
 ghost use Rattle.command_line.specs.CommandLine.{AsksWith, part_app};
 
-use crate::arguments::{flag_argument, flag_of, path_argument, text_of, trace_argument};
-use crate::building::{CommandHelp, command_of_three};
+use crate::arguments::{flag_argument, flag_of, text_of};
+use crate::building::CommandHelp;
 use crate::line::{CommandLine, Line, command_line_of};
+use crate::path_commands::{PathCommand, PathHelp, TRACE, new_path_command};
 use clap::{ArgMatches, Command};
 use std::alloc::{AllocError, Global};
 
-const ABOUT: &str = "Writes the part of a trace that some of its operations make up";
-
-const AFTER_HELP: &str =
-    "The part goes to standard output, as a trace. If it has no legal schedule, TRACE
+const PART: PathCommand = PathCommand {
+    help: CommandHelp {
+        name: "part",
+        about: "Writes the part of a trace that some of its operations make up",
+        example: "The part goes to standard output, as a trace. If it has no legal schedule, TRACE
 has none, whatever was chosen. A read is left out, and an update becomes a
 write, if an operation from which the value may be is not named. One of the two
 files may be '-', standard input.
@@ -28,27 +30,26 @@ The answer is, line by line: vsc 1, proc P, W x 1, proc Q, R x 2.
 Exit status:
     0  the part was written
     2  the command line or a file is refused
-    4  a file or a standard stream failed";
+    4  a file or a standard stream failed",
+    },
+    first: TRACE,
+    second: PathHelp {
+        id: "names",
+        value_name: "NAMES",
+        help: "A file with names of operations, one a line, in any order",
+    },
+};
 
-const NAMES: &str = "A file with names of operations, one a line, in any order";
-
-const SHOW_NAMES: &str = "Writes '# Q.2', the name in TRACE, before each operation";
+const SHOW_NAMES_HELP: &str = "Writes '# Q.2', the name in TRACE, before each operation";
 
 /// The command, as `clap` takes it.
 pub fn new_part_command<'a>(alloc: Global) -> Result<Command<'a>, AllocError>
     ensures app { IfOk result (λ c. app_of c ≡ part_app) }
     ensures local { IfOk result (λ c. (out-Command c).has_globals ≡ false) }
 {
-    let trace = trace_argument(alloc);
-    let names = path_argument(alloc, "names", "NAMES", NAMES);
     // Its id is another one than its name, as `names` is the id of the path NAMES.
-    let shows_names = flag_argument(alloc, "show-names", "names", SHOW_NAMES);
-    let help = CommandHelp {
-        name: "part",
-        about: ABOUT,
-        example: AFTER_HELP,
-    };
-    command_of_three(alloc, help, trace, names, shows_names)
+    let shows_names = flag_argument(alloc, "show-names", "names", SHOW_NAMES_HELP);
+    new_path_command(alloc, PART)?.arg(shows_names)
 }
 
 /// Gives what the matches of the command ask for.

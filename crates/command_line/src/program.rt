@@ -8,10 +8,8 @@ ghost use Rattle.command_line.specs.CommandLine.{explained, program_app, vsc_app
 use crate::batch_command::new_batch_command;
 use crate::building::with_explanation;
 use crate::cnf_command::new_cnf_command;
-use crate::decode_command::new_decode_command;
-use crate::judge_command::new_judge_command;
-use crate::lrat_command::new_lrat_command;
 use crate::part_command::new_part_command;
+use crate::path_commands::{DECODE, JUDGE, LRAT, new_path_command};
 use crate::recheck_command::new_recheck_command;
 use crate::refusals_command::new_refusals_command;
 use crate::survey_command::new_survey_command;
@@ -86,10 +84,10 @@ pub fn new_program<'a>(alloc: Global) -> Result<Command<'a>, AllocError>
         new_verify_command(alloc),
         EXPLAINS,
     );
-    let program = with_command(alloc, program, new_judge_command(alloc), EXPLAINS);
+    let program = with_command(alloc, program, new_path_command(alloc, JUDGE), EXPLAINS);
     let program = with_command(alloc, program, new_cnf_command(alloc), EXPLAINS);
-    let program = with_command(alloc, program, new_decode_command(alloc), EXPLAINS);
-    let program = with_command(alloc, program, new_lrat_command(alloc), EXPLAINS);
+    let program = with_command(alloc, program, new_path_command(alloc, DECODE), EXPLAINS);
+    let program = with_command(alloc, program, new_path_command(alloc, LRAT), EXPLAINS);
     let program = with_command(alloc, program, new_recheck_command(alloc), EXPLAINS);
     let program = with_command(alloc, program, new_part_command(alloc), EXPLAINS);
     let program = with_command(alloc, program, new_survey_command(alloc), EXPLAINS);

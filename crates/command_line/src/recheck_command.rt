@@ -6,18 +6,18 @@ ghost use Rattle.clap.specs.declared.builder.command.Command.TheViews.{out-Comma
 ghost use Rattle.command_line.specs.Arguments.{HasFlag, all_texts};
 ghost use Rattle.command_line.specs.CommandLine.{AsksWith, recheck_app};
 
-use crate::arguments::{
-    optional_path_argument, optional_text_of, path_argument, text_of, trace_argument,
-};
-use crate::building::{CommandHelp, command_of_three};
+use crate::arguments::{optional_path_argument, optional_text_of, text_of};
+use crate::building::CommandHelp;
 use crate::line::{CommandLine, Line, command_line_of};
+use crate::path_commands::{PathCommand, PathHelp, TRACE, new_path_command};
 use clap::{ArgMatches, Command};
 use std::alloc::{AllocError, Global};
 
-const ABOUT: &str = "Checks a certificate that a trace has no legal schedule";
-
-const AFTER_HELP: &str =
-    "Nothing is searched for, and whoever wrote CERT is not trusted. With --part it
+const RECHECK: PathCommand = PathCommand {
+    help: CommandHelp {
+        name: "recheck",
+        about: "Checks a certificate that a trace has no legal schedule",
+        example: "Nothing is searched for, and whoever wrote CERT is not trusted. With --part it
 is one of the part that 'vsc part TRACE NAMES' writes. ACCEPTED always says that
 TRACE itself has no legal schedule. One of the files may be '-', standard input.
 
@@ -30,26 +30,25 @@ clauses 1 and -1 of the trace, since nothing writes what P reads.
 Exit status:
     0  the answer is ACCEPTED
     2  the command line or a file is refused, or a proof is wrong or missing
-    4  a file or a standard stream failed";
+    4  a file or a standard stream failed",
+    },
+    first: TRACE,
+    second: PathHelp {
+        id: "cert",
+        value_name: "CERT",
+        help: "A file with a certificate, as 'vsc verify --cert' writes it",
+    },
+};
 
-const CERT: &str = "A file with a certificate, as 'vsc verify --cert' writes it";
-
-const PART: &str = "Takes CERT as one of the part of TRACE that NAMES names";
+const PART_HELP: &str = "Takes CERT as one of the part of TRACE that NAMES names";
 
 /// The command, as `clap` takes it.
 pub fn new_recheck_command<'a>(alloc: Global) -> Result<Command<'a>, AllocError>
     ensures app { IfOk result (λ c. app_of c ≡ recheck_app) }
     ensures local { IfOk result (λ c. (out-Command c).has_globals ≡ false) }
 {
-    let trace = trace_argument(alloc);
-    let cert = path_argument(alloc, "cert", "CERT", CERT);
-    let part = optional_path_argument(alloc, "part", "NAMES", PART);
-    let help = CommandHelp {
-        name: "recheck",
-        about: ABOUT,
-        example: AFTER_HELP,
-    };
-    command_of_three(alloc, help, trace, cert, part)
+    let part = optional_path_argument(alloc, "part", "NAMES", PART_HELP);
+    new_path_command(alloc, RECHECK)?.arg(part)
 }
 
 /// Gives what the matches of the command ask for.

@@ -6,14 +6,15 @@ ghost use Rattle.clap.specs.declared.builder.command.Command.TheViews.{out-Comma
 ghost use Rattle.command_line.specs.Arguments.{HasFlag, all_texts};
 ghost use Rattle.command_line.specs.CommandLine.{AsksWith, refusals_app};
 
+use crate::building::{CommandHelp, new_command};
 use crate::line::{CommandLine, Line, command_line_of};
 use clap::{ArgMatches, Command};
 use std::alloc::{AllocError, Global};
 
-const ABOUT: &str = "Lists all refusals, with a sentence on each";
-
-const AFTER_HELP: &str =
-    "A refusal is one line on standard error: 'refused: ', the file or the step that
+const HELP: CommandHelp = CommandHelp {
+    name: "refusals",
+    about: "Lists all refusals, with a sentence on each",
+    example: "A refusal is one line on standard error: 'refused: ', the file or the step that
 it concerns, a number, a name, and usually 'at' and the number of a line. The
 list goes to standard output, and no file is read.
 
@@ -23,7 +24,8 @@ Example, which can be pasted:
 Exit status:
     0  the list was written
     2  the command line is refused
-    4  standard output failed";
+    4  standard output failed",
+};
 
 /// Builds the command `refusals` for `clap`, with no argument of its own. `new_program` adds `--explain` to it, as to each command, and
 /// takes a `Result`, since others run out of memory while they are built.
@@ -31,10 +33,7 @@ pub fn new_refusals_command<'a>(alloc: Global) -> Result<Command<'a>, AllocError
     ensures app { IfOk result (λ c. app_of c ≡ refusals_app) }
     ensures local { IfOk result (λ c. (out-Command c).has_globals ≡ false) }
 {
-    let command = Command::new(alloc, "refusals")
-        .about(ABOUT)
-        .after_help(AFTER_HELP);
-    Ok(command)
+    Ok(new_command(alloc, HELP))
 }
 
 /// Gives what the matches of the command ask for.

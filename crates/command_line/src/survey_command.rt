@@ -11,15 +11,16 @@ use crate::arguments::{
     flag_of, optional_path_argument, optional_text_of, picture_argument, progress_argument,
     text_of, trace_argument,
 };
-use crate::building::{CommandHelp, command_of_three, with_two};
+use crate::building::{CommandHelp, new_command, with_two};
 use crate::line::{CommandLine, Line, SurveyFiles, SurveyNumbers, command_line_of};
-use crate::numbers::{SEARCHERS, budget_of, number_argument, workers_argument, workers_of};
+use crate::numbers::{SEARCHERS_HELP, budget_of, number_argument, workers_argument, workers_of};
 use clap::{ArgMatches, Command};
 use std::alloc::{AllocError, Global};
 
-const ABOUT: &str = "Decides whether a long trace is sequentially consistent, by a survey";
-
-const AFTER_HELP: &str = "TRACE has up to 1048576 operations; if it is '-', standard input is read.
+const HELP: CommandHelp = CommandHelp {
+    name: "survey",
+    about: "Decides whether a long trace is sequentially consistent, by a survey",
+    example: "TRACE has up to 1048576 operations; if it is '-', standard input is read.
 The answer is one of
     CONSISTENT, and a legal schedule of all operations, one name a line;
     INCONSISTENT operations=N cubes=M, and the N names of a core: the part that
@@ -39,17 +40,18 @@ Exit status:
     1  the answer is INCONSISTENT
     2  the command line, the trace or the hint is refused
     3  the answer is UNKNOWN
-    4  a file or a standard stream failed";
+    4  a file or a standard stream failed",
+};
 
-const CERT: &str = "Writes the proofs of the core's part to FILE";
+const CERT_HELP: &str = "Writes the proofs of the core's part to FILE";
 
-const NAMES: &str = "Writes the names of the core to FILE, one a line";
+const NAMES_HELP: &str = "Writes the names of the core to FILE, one a line";
 
-const PART: &str = "Writes the core's part to FILE, as a trace";
+const PART_HELP: &str = "Writes the core's part to FILE, as a trace";
 
-const STEPS: &str = "Most steps, 0 to 1000000000";
+const STEPS_HELP: &str = "Most steps, 0 to 1000000000";
 
-const HINT: &str = "Reads a schedule, maybe a legal one, and begins there";
+const HINT_HELP: &str = "Reads a schedule, maybe a legal one, and begins there";
 
 /// The command, as `clap` takes it.
 pub fn new_survey_command<'a>(alloc: Global) -> Result<Command<'a>, AllocError>
@@ -57,23 +59,19 @@ pub fn new_survey_command<'a>(alloc: Global) -> Result<Command<'a>, AllocError>
     ensures local { IfOk result (λ c. (out-Command c).has_globals ≡ false) }
 {
     let trace = trace_argument(alloc);
-    let cert = optional_path_argument(alloc, "cert", "FILE", CERT);
-    let names = optional_path_argument(alloc, "names", "FILE", NAMES);
-    let help = CommandHelp {
-        name: "survey",
-        about: ABOUT,
-        example: AFTER_HELP,
-    };
-    let command = command_of_three(alloc, help, trace, cert, names)?;
-    let part = optional_path_argument(alloc, "part", "FILE", PART);
-    let budget = number_argument(alloc, "budget", "1000000000", 0, 1_000_000_000, STEPS);
-    let command = with_two(command, part, budget)?;
-    let workers = workers_argument(alloc, SEARCHERS);
+    let cert = optional_path_argument(alloc, "cert", "FILE", CERT_HELP);
+    let command = with_two(new_command(alloc, HELP), trace, cert)?;
+    let names = optional_path_argument(alloc, "names", "FILE", NAMES_HELP);
+    let part = optional_path_argument(alloc, "part", "FILE", PART_HELP);
+    let command = with_two(command, names, part)?;
+    let budget = number_argument(alloc, "budget", "1000000000", 0, 1_000_000_000, STEPS_HELP);
+    let workers = workers_argument(alloc, SEARCHERS_HELP);
+    let command = with_two(command, budget, workers)?;
     let progress = progress_argument(alloc);
-    let command = with_two(command, workers, progress)?;
     let picture = picture_argument(alloc);
-    let hint = optional_path_argument(alloc, "hint", "FILE", HINT);
-    with_two(command, picture, hint)
+    let command = with_two(command, progress, picture)?;
+    let hint = optional_path_argument(alloc, "hint", "FILE", HINT_HELP);
+    command.arg(hint)
 }
 
 // The files that were given.

@@ -11,18 +11,19 @@ use crate::arguments::{
     flag_of, optional_path_argument, optional_text_of, picture_argument, progress_argument,
     text_of, trace_argument,
 };
-use crate::building::{CommandHelp, command_of_two, with_two};
+use crate::building::{CommandHelp, new_command, with_two};
 use crate::line::{CommandLine, Line, SearchNumbers, command_line_of};
 use crate::numbers::{
-    SEARCHERS, budget_argument, budget_of, number_argument, rounds_of, split_argument, split_of,
-    workers_argument, workers_of,
+    SEARCHERS_HELP, budget_argument, budget_of, number_argument, rounds_of, split_argument,
+    split_of, workers_argument, workers_of,
 };
 use clap::{ArgMatches, Command};
 use std::alloc::{AllocError, Global};
 
-const ABOUT: &str = "Decides whether a trace is sequentially consistent";
-
-const AFTER_HELP: &str = "The answer is one of
+const HELP: CommandHelp = CommandHelp {
+    name: "verify",
+    about: "Decides whether a trace is sequentially consistent",
+    example: "The answer is one of
     CONSISTENT, and a legal schedule of all operations, one name a line;
     INCONSISTENT cubes=N: there is none; each of N cases has a checked proof;
     UNKNOWN open=N: the search was given up. A legal schedule can only be in one
@@ -39,11 +40,12 @@ Exit status:
     1  the answer is INCONSISTENT
     2  the command line or the trace is refused
     3  the answer is UNKNOWN
-    4  a file or a standard stream failed";
+    4  a file or a standard stream failed",
+};
 
-const ROUNDS: &str = "Most rounds of the search, 1 to 4";
+const ROUNDS_HELP: &str = "Most rounds of the search, 1 to 4";
 
-const CERT: &str = "Writes proofs of INCONSISTENT to FILE, for 'vsc recheck'";
+const CERT_HELP: &str = "Writes proofs of INCONSISTENT to FILE, for 'vsc recheck'";
 
 /// The command, as `clap` takes it.
 pub fn new_verify_command<'a>(alloc: Global) -> Result<Command<'a>, AllocError>
@@ -51,18 +53,13 @@ pub fn new_verify_command<'a>(alloc: Global) -> Result<Command<'a>, AllocError>
     ensures local { IfOk result (λ c. (out-Command c).has_globals ≡ false) }
 {
     let trace = trace_argument(alloc);
-    let cert = optional_path_argument(alloc, "cert", "FILE", CERT);
-    let help = CommandHelp {
-        name: "verify",
-        about: ABOUT,
-        example: AFTER_HELP,
-    };
-    let command = command_of_two(alloc, help, trace, cert)?;
-    let workers = workers_argument(alloc, SEARCHERS);
+    let cert = optional_path_argument(alloc, "cert", "FILE", CERT_HELP);
+    let command = with_two(new_command(alloc, HELP), trace, cert)?;
+    let workers = workers_argument(alloc, SEARCHERS_HELP);
     let split = split_argument(alloc);
     let command = with_two(command, workers, split)?;
     let budget = budget_argument(alloc);
-    let rounds = number_argument(alloc, "rounds", "1", 1, 4, ROUNDS);
+    let rounds = number_argument(alloc, "rounds", "1", 1, 4, ROUNDS_HELP);
     let command = with_two(command, budget, rounds)?;
     let progress = progress_argument(alloc);
     let picture = picture_argument(alloc);

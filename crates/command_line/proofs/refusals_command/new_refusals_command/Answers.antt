@@ -1,14 +1,8 @@
 -- The command is new, and has no argument.
-use Rattle.std.proofs.Common.{◌∙◌, ap}
-use Rattle.clap.specs.Simple.{app_of_fields}
-use Rattle.clap.specs.declared.builder.command.Command.{Command}
-use Rattle.clap.specs.declared.builder.command.Command.TheOpen.{Command-F}
 use Rattle.command_line.proofs.refusals_command.new_refusals_command.Goals as goal
 
 pub returns-clause-app : goal.returns-clause-app
-returns-clause-app c = ap app_of_fields c.after_help-command.ensures ∙ ap app_of_fields c.about.ensures ∙ c.new.ensures.app
+returns-clause-app c = c.new_command.ensures.app
 
 pub returns-clause-local : goal.returns-clause-local
-returns-clause-local c =
-    ap (λ (f : Command-F Command). f.has_globals) c.after_help-command.ensures ∙ ap (λ (f : Command-F Command). f.has_globals) c.about.ensures
-    ∙ c.new.ensures.local
+returns-clause-local c = c.new_command.ensures.local

@@ -1,0 +1,14 @@
+-- The command is new, and gets two paths.
+use Rattle.std.proofs.Common.{◌∙◌, ap₂}
+use Rattle.std.proofs.lemmas.Result.{IfOk-weaker}
+use Rattle.clap.specs.Words.{with_rule}
+use Rattle.command_line.proofs.path_commands.new_path_command.Goals as goal
+
+pub returns-clause-app : goal.returns-clause-app
+returns-clause-app c =
+    IfOk-weaker c.with_two.result _ _
+    (λ r h. h ∙ ap₂ with_rule (ap₂ with_rule c.new_command.ensures.app c.argument_of-first.ensures.rule) c.argument_of-second.ensures.rule)
+    c.with_two.ensures.app
+
+pub returns-clause-local : goal.returns-clause-local
+returns-clause-local c = IfOk-weaker c.with_two.result _ _ (λ r h. h ∙ c.new_command.ensures.local) c.with_two.ensures.globals
