@@ -38,7 +38,7 @@ struct Said {
     members: Vec<u8>,
 }
 
-/// What is said of the trace in this text, by a search with this budget.
+/// The details of the trace in this text, by a search with this budget, and the members that say them.
 fn said<R: Threads + Wait + Sync>(alloc: Global, rt: &R, text: &[u8], budget: u64) -> Option<Said> {
     let details = found(alloc, rt, text, budget)?;
     let mut members = Vec::new(alloc);
