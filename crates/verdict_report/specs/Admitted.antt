@@ -1,7 +1,6 @@
 -- The traces that are translated.
 use Rattle.std.specs.Prelude.{◌≡◌, ◌<◌, ◌≤◌, ⊤, ℕ, List, Result, Ok, Err}
 use Rattle.dimacs.specs.CnfText.{cnf_text}
-use Rattle.dimacs.specs.Formula.{FormulaValue}
 use Rattle.trace_semantics.specs.Trace.{TraceValue, IsTrace, operation_count}
 use Rattle.trace_text.specs.TraceFault.{HasTraceFault}
 use Rattle.trace_text.specs.TraceText.{SpellsTrace}
@@ -33,10 +32,6 @@ IsReducedFrom text (Err OutOfMemory) = ⊤
 IsReducedFrom text (Err (Trace cause line)) = HasTraceFault text cause line
 IsReducedFrom text (Err (Reduce StillTooLarge left)) = IsTooLarge text left
 IsReducedFrom text (Err fault) = ⊥
-
--- the formula of what is kept of a trace
-abbrev pub kept_formula : TraceValue → FormulaValue
-kept_formula value = formula_of (kept_trace value)
 
 -- the text of the clause list of what is kept of a trace
 abbrev pub cnf_of : TraceValue → List ℕ

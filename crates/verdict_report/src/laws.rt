@@ -19,8 +19,10 @@ ghost use Rattle.trace_semantics.specs.Trace.{TraceValue, IsTrace};
 ghost use Rattle.schedule_text.specs.ScheduleText.{SpellsSchedule};
 ghost use Rattle.trace_semantics.specs.ScheduleLimits.{limits_for};
 ghost use Rattle.schedule_text.specs.ScheduleWritten.{canonical_schedule};
+ghost use Rattle.reducer.specs.Reduction.{kept_trace};
 ghost use Rattle.cnf_text.specs.CnfReading.{SpellsCnf};
-ghost use Rattle.verdict_report.specs.Admitted.{Admits, IsTooLarge, cnf_of, kept_formula};
+ghost use Rattle.clause_blocks.specs.Clauses.{clauses_of, formula_of};
+ghost use Rattle.verdict_report.specs.Admitted.{Admits, IsTooLarge, cnf_of};
 ghost use Rattle.verdict_report.specs.CnfEngine.{Translates};
 ghost use Rattle.verdict_report.specs.LratEngine.{AreAccepted};
 ghost use Rattle.verdict_report.specs.Runs.{SourceRun, HandsOut};
@@ -51,12 +53,12 @@ pub fn never_admitted_and_refused()
 /// The clauses that are written have a model if and only if the whole trace has a legal schedule.
 pub fn satisfiable_exactly_where_schedulable()
     ensures { (text : List ℕ) (value : TraceValue) → Admits text value →
-        ((truth : ℕ → Bool) × IsModel truth (kept_formula value).clauses) ↔ ((names : List OpName) × IsLegal value names) }
+        ((truth : ℕ → Bool) × IsModel truth (clauses_of (kept_trace value))) ↔ ((names : List OpName) × IsLegal value names) }
 {}
 
 /// The text that is written of an admitted trace spells the formula of what is kept of it, as a reader of formulas takes it.
 pub fn written_text_spells()
-    ensures { (text : List ℕ) (value : TraceValue) → Admits text value → SpellsCnf (cnf_of value) (kept_formula value) }
+    ensures { (text : List ℕ) (value : TraceValue) → Admits text value → SpellsCnf (cnf_of value) (formula_of (kept_trace value)) }
 {}
 
 /// The text that is written of a legal schedule of a trace spells it, as a reader of schedules takes it.
@@ -72,7 +74,7 @@ pub fn accepted_proof_shows_no_schedule()
 /// A certificate that is accepted for the clauses of what is kept of an admitted trace shows that the whole trace has no legal schedule.
 pub fn accepted_certificate_shows_no_schedule()
     ensures { (text cert : List ℕ) (value : TraceValue) (certificate : Certificate) (count : ℕ) (names : List OpName) →
-        Admits text value → SpellsCertificate cert certificate → IsRechecked (kept_formula value).clauses certificate count → IsLegal value names → ⊥ }
+        Admits text value → SpellsCertificate cert certificate → IsRechecked (clauses_of (kept_trace value)) certificate count → IsLegal value names → ⊥ }
 {
     accepted_has_no_model();
     formula_is_over_its_variables();
