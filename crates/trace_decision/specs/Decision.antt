@@ -10,7 +10,6 @@ use Rattle.schedule_text.specs.ScheduleWritten.{canonical_schedule}
 use Rattle.reducer.specs.Reduction.{kept_trace}
 use Rattle.clause_blocks.specs.Clauses.{clauses_of}
 use Rattle.certificate.specs.CertWritten.{canonical_certificate, certificate_of}
-use Rattle.certificate.specs.Rechecked.{IsRechecked}
 use Rattle.certificate.specs.declared.certificate.Certificate.{Certificate}
 use Rattle.cube_jobs.specs.Options.{OptionsValue}
 use Rattle.cube_tree.specs.CubeTree.{CubeTree, cubes_of, leaves, IsCubeTree}
@@ -34,10 +33,6 @@ pub record IsRefutation (clauses : List (List ℤ)) (refutation : Refutation) : 
 -- each model of the clauses makes all literals of one of the cubes true
 abbrev pub HoldModels : List (List ℤ) → List (List ℤ) → Type 0
 HoldModels clauses cubes = (value : ℕ → Bool) → IsModel value clauses → (cube : List ℤ) × Contains cubes cube × IsTrue (makes_all value cube)
-
--- of the clauses of what is kept of a trace
-abbrev pub HoldModelsOf : TraceValue → List (List ℤ) → Type 0
-HoldModelsOf t cubes = HoldModels (clauses_of (kept_trace t)) cubes
 
 -- the cubes are those of these leaves, in order
 abbrev pub AreCubesOf : List Slot → List ℕ → List (List ℤ) → Type 0
@@ -91,10 +86,6 @@ report (Unknown cubes) = unknown_line (length cubes) ++ flat_map open_line cubes
 -- the certificate of a trace without a legal schedule: the tree, and a section for each of its leaves
 abbrev pub certificate_in : Refutation → Certificate
 certificate_in refutation = certificate_of refutation.tree refutation.derivations
-
--- the certificate is accepted for the clauses of what is kept of the trace, and is of as many cubes as the tree has leaves
-abbrev pub IsRefutedBy : TraceValue → Refutation → Type 0
-IsRefutedBy value refutation = IsRechecked (clauses_of (kept_trace value)) (certificate_in refutation) (leaves refutation.tree)
 
 -- its text, where the trace has no legal schedule, and else nothing
 abbrev pub certificate_text : Decision → List ℕ

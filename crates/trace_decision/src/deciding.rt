@@ -1,11 +1,14 @@
 //! From a reduced trace to what is decided of it.
-ghost use Rattle.std.specs.Prelude.{◌≡◌, ◌<◌, ℕ, length, Contains, IfOk, IfSome};
+ghost use Rattle.std.specs.Prelude.{◌≡◌, ◌<◌, ℕ, length, IfOk, IfSome};
+ghost use Rattle.std.specs.List.{Contains};
 ghost use Rattle.cube_tree.specs.CubeTree.{cubes_of};
 ghost use Rattle.dimacs.specs.Assignment.{value_of};
 ghost use Rattle.schedule_decode.specs.Decode.{IsModelOfKept};
-ghost use Rattle.trace_semantics.specs.Legal.{IsLegal};
+ghost use Rattle.trace_semantics.specs.Legal.{IsLegal, HasNoSchedule};
 ghost use Rattle.result_ledger.specs.Ledger.{cubes_in};
-ghost use Rattle.trace_decision.specs.Decision.{IsDecided, NamesOpen, AreCubesOf};
+ghost use Rattle.reducer.specs.Reduction.{kept_trace};
+ghost use Rattle.clause_blocks.specs.Clauses.{clauses_of};
+ghost use Rattle.trace_decision.specs.Decision.{IsDecided, IsRefutation, NamesOpen, AreCubesOf};
 ghost use Rattle.trace_decision.specs.declared.decision.Decision.TheVariants.{Inconsistent};
 ghost use Rattle.trace_decision.specs.Rounds.{HaveEnded};
 
@@ -207,14 +210,15 @@ fn refute_as_one_cube<R: Threads + Wait + Sync, S: CubeSolver + Sync, G: Gate + 
     solver: &S,
 ) -> Result<Option<Refutation>, SearchFault>
     requires { clauses.now ≡ reduced.now.kept }
-    ensures { IfOk result (λ found. IfSome found (λ refutation. IsDecided run.now.options.now reduced.now.whole (Inconsistent refutation))) }
+    ensures { IfOk result (λ found. IfSome found (λ refutation. IsRefutation (clauses_of (kept_trace reduced.now.whole)) refutation × HasNoSchedule reduced.now.whole)) }
 {
+    let alloc = run.alloc;
     // A tree of one leaf, and one round. These numbers are in their ranges, so there are such options.
     let Ok(one_cube) = Options::new(run.options.workers(), 0, MOST_STEPS, 1) else {
         return Ok(None);
     };
-    let decided = search_in_rounds(run.alloc, run.rt, clauses, solver, &one_cube, run.gate)?;
-    match decision_of(run.alloc, reduced, clauses, &one_cube, decided)? {
+    let decided = search_in_rounds(alloc, run.rt, clauses, solver, &one_cube, run.gate)?;
+    match decision_of(alloc, reduced, clauses, &one_cube, decided)? {
         Decision::Inconsistent(refutation) => Ok(Some(refutation)),
         _ => Ok(None),
     }
@@ -230,23 +234,35 @@ fn refute_by_counting<R: Threads + Wait + Sync, G: Gate + Sync>(
     requires { clauses.now ≡ reduced.now.kept }
     ensures { IfOk result (λ found. IfSome found (λ refutation. IsDecided run.now.options.now reduced.now.whole (Inconsistent refutation))) }
 {
+    let alloc = run.alloc;
     let budget = run.options.budget();
     // With a budget from `MOST_STEPS` on, the search has counted with as many steps before.
     if budget == 0 || budget >= MOST_STEPS {
         return Ok(None);
     }
-    let reads_from = reads_from_table(run.alloc, clauses)?;
+    let reads_from = reads_from_table(alloc, clauses)?;
     let encoding = guide_to_order(clauses).with_reads_from(&reads_from);
-    let prepared = PreparedFormula::of(run.alloc, clauses, encoding)?;
+    let prepared = PreparedFormula::of(alloc, clauses, encoding)?;
     let counter = SourceCounter::of(&prepared);
     refute_as_one_cube(run, reduced, clauses, &counter)
 }
 
-/// Returns whether the search before the cubes has found a refutation of the whole that is long: each leaf of the certificate would have a copy of it, and
-/// `recheck` would check each.
-fn has_long_refutation(prepared: &PreparedFormula) -> bool {
+/// Gives the refutation of the whole that the search before the cubes has found, as one cube, if it is long: else each leaf of the certificate would have a copy of it,
+/// and `recheck` would check each.
+fn long_refutation<R: Threads + Wait + Sync, G: Gate + Sync>(
+    run: &SearchRun<'_, R, G>,
+    reduced: &Reduced,
+    clauses: &TraceClauses,
+    prepared: &PreparedFormula,
+) -> Result<Option<Refutation>, SearchFault>
+    requires { clauses.now ≡ reduced.now.kept }
+    ensures { IfOk result (λ found. IfSome found (λ refutation. IsRefutation (clauses_of (kept_trace reduced.now.whole)) refutation × HasNoSchedule reduced.now.whole)) }
+{
     let steps = prepared.refutation_steps() as u64;
-    steps >= LONG_STEPS && steps <= MOST_STEPS
+    if steps < LONG_STEPS || steps > MOST_STEPS {
+        return Ok(None);
+    }
+    refute_as_one_cube(run, reduced, clauses, prepared)
 }
 
 /// Decides whether the whole trace has a legal schedule, within the limits of the options.
@@ -272,10 +288,8 @@ pub fn decide<R: Threads + Wait + Sync, G: Gate + Sync>(
         gate,
     };
     let prepared = prepared_formula(alloc, rt, kept, &reads_from, options, gate)?;
-    if has_long_refutation(&prepared) {
-        if let Some(refutation) = refute_as_one_cube(&run, reduced, &clauses, &prepared)? {
-            return Ok(Decision::Inconsistent(refutation));
-        }
+    if let Some(refutation) = long_refutation(&run, reduced, &clauses, &prepared)? {
+        return Ok(Decision::Inconsistent(refutation));
     }
     let decided = search_in_rounds(alloc, rt, &clauses, &prepared, options, gate)?;
     let decision = decision_of(alloc, reduced, &clauses, options, decided)?;

@@ -1,5 +1,6 @@
 //! The report of what is decided.
-ghost use Rattle.std.specs.Prelude.{◌≡◌, ◌++◌, flat_map, IfOk, OnOk};
+ghost use Rattle.std.specs.Prelude.{◌≡◌, ◌++◌, IfOk, OnOk};
+ghost use Rattle.std.specs.List.{flat_map};
 ghost use Rattle.dimacs.specs.CnfText.{literal_text};
 ghost use Rattle.schedule_text.specs.ScheduleWritten.{canonical_schedule};
 ghost use Rattle.trace_decision.specs.Decision.{open_line, unknown_line, report};

@@ -1,5 +1,6 @@
 //! Open leaves are split.
-ghost use Rattle.std.specs.Prelude.{◌≡◌, ◌<◌, ◌≤◌, ◌&&◌, ℕ, length, not, Contains, IfOk, IfSome};
+ghost use Rattle.std.specs.Prelude.{◌≡◌, ◌<◌, ◌≤◌, ◌&&◌, ℕ, length, not, IfOk, IfSome};
+ghost use Rattle.std.specs.List.{Contains};
 ghost use Rattle.cube_tree.specs.CubeTree.{cubes_of, is_variable};
 ghost use Rattle.result_ledger.specs.Ledger.{cubes_in};
 ghost use Rattle.trace_decision.specs.Rounds as rounds;
