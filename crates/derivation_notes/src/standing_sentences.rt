@@ -16,25 +16,6 @@ pub enum Standing {
 }
 
 impl Standing {
-    /// The sentence on the order that the clause concludes, unless that goes without saying: a reader whose source is known stands after it.
-    fn concluded(self) -> Option<[Phrase<'static>; 4]> {
-        match self {
-            Standing::BeforeWriter { reader, writer } => Some([
-                Phrase::Name(reader),
-                Phrase::Words(b" reads the initial value, so "),
-                Phrase::Whole(writer),
-                Phrase::Words(b" stands after it"),
-            ]),
-            Standing::AfterSource { .. } => None,
-            Standing::BeforeLast { last, writer } => Some([
-                Phrase::Whole(writer),
-                Phrase::Words(b" stands before "),
-                Phrase::Name(last),
-                Phrase::Words(b", the last write there"),
-            ]),
-        }
-    }
-
     /// The order that the clause does not allow: that the first operation stands before the second.
     fn denied(self) -> (usize, usize) {
         match self {
@@ -44,7 +25,7 @@ impl Standing {
         }
     }
 
-    /// The begin of the sentence on that order: the one operation, how it stands, and the other one.
+    /// How the sentence on that order begins: the one operation, how it stands, and the other one.
     fn stands(self) -> (usize, &'static [u8], Phrase<'static>) {
         match self {
             Standing::BeforeWriter { reader, writer } => {
@@ -77,6 +58,25 @@ impl Standing {
 }
 
 impl<'t> Teller<'t> {
+    /// Says the order that the clause concludes, unless that goes without saying: a reader whose source is known stands after it.
+    fn say_concluded(&mut self, standing: Standing) {
+        match standing {
+            Standing::BeforeWriter { reader, writer } => self.story.say(&[
+                Phrase::Name(reader),
+                Phrase::Words(b" reads the initial value, so "),
+                Phrase::Whole(writer),
+                Phrase::Words(b" stands after it"),
+            ]),
+            Standing::AfterSource { .. } => {}
+            Standing::BeforeLast { last, writer } => self.story.say(&[
+                Phrase::Whole(writer),
+                Phrase::Words(b" stands before "),
+                Phrase::Name(last),
+                Phrase::Words(b", the last write there"),
+            ]),
+        }
+    }
+
     /// Says the clause: the order that it concludes, or else the order that it does not allow, and what follows of that.
     pub fn tell_standing(
         &mut self,
@@ -85,9 +85,7 @@ impl<'t> Teller<'t> {
     ) -> Result<(), AllocError> {
         let is_contradiction = match conclusion {
             Conclusion::Order(_, _) => {
-                if let Some(phrases) = standing.concluded() {
-                    self.story.say(&phrases);
-                }
+                self.say_concluded(standing);
                 return Ok(());
             }
             Conclusion::Contradiction => true,
