@@ -25,7 +25,7 @@ impl Standing {
         }
     }
 
-    /// The beginning of the sentence on that order: the one operation, how it stands, and the other one.
+    /// The first words of the sentence on that order: the one operation, how it stands, and the other one.
     fn stands(self) -> (usize, &'static [u8], Phrase<'static>) {
         match self {
             Standing::BeforeWriter { reader, writer } => {
