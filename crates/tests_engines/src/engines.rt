@@ -3,7 +3,9 @@
 mod certified_verdicts;
 mod formula_engines;
 mod judging;
-mod known_runs;
+mod part_rechecks;
+mod parts;
+mod rechecks;
 mod text_runs;
 mod verdicts;
 mod wanted_runs;

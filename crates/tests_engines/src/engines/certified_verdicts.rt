@@ -1,16 +1,16 @@
 //! Verdicts with certificates, over a source and two sinks that move a byte a call and fail at one of their calls.
 
+use crate::engines::rechecks::assert_accepted;
 use crate::engines::verdicts::{DECIDED_TRACES, DecidedTrace, options_of};
-use crate::engines::wanted_runs::{WantedRun, assert_run};
 use crate::expectations::expect;
 use crate::short_devices::{failing_at, sink_failing_at, source_of};
 use cube_jobs::{OpenGate, SearchRun};
-use dimacs::ShortSink;
+use dimacs::{MemorySink, ShortSink};
 use std::alloc::Global;
 use std::process::Abort;
 use std::sync::Wait;
 use std::thread::Threads;
-use verdict_report::{Fault, ShortSource, Status, run_certified_verify, run_recheck};
+use verdict_report::{Fault, ShortSource, Status, run_certified_verify};
 
 /// How many verdicts have a certificate: they are the first ones.
 const CERTIFIED: usize = 2;
@@ -23,6 +23,28 @@ const HEADS: [&[u8]; CERTIFIED] = [
 
 /// What is written of the certificates that are accepted.
 const LINES: [&[u8]; CERTIFIED] = [b"ACCEPTED cubes=2\n", b"ACCEPTED cubes=1\n"];
+
+/// Returns what the sink takes of the certificate if no device fails. Which derivations it has is not fixed.
+fn whole_certificate<R: Threads + Wait + Abort + Sync>(
+    alloc: Global,
+    rt: &R,
+    verdict: &DecidedTrace,
+) -> MemorySink {
+    let options = options_of(rt, verdict);
+    let mut trace = source_of(verdict.trace);
+    let mut cert = MemorySink::new(alloc);
+    let mut out = MemorySink::new(alloc);
+    let run = SearchRun {
+        alloc,
+        rt,
+        options: &options,
+        gate: &OpenGate,
+    };
+    let outcome = run_certified_verify(&run, &mut trace, &mut cert, &mut out);
+    expect(rt, outcome == Ok(Status::No), 0);
+    expect(rt, out.as_slice() == verdict.report, 0);
+    cert
+}
 
 /// The devices of a run.
 #[derive(Drop)]
@@ -39,55 +61,6 @@ fn devices_of(alloc: Global, verdict: &DecidedTrace) -> Devices {
         cert: ShortSink::new(alloc, 1),
         out: ShortSink::new(alloc, 1),
     }
-}
-
-/// What an engine that certifies has answered, and what the sinks of the certificate and of the report have taken.
-#[derive(Drop)]
-struct CertifiedRun {
-    answer: Result<Status, Fault>,
-    certificate: ShortSink,
-    report: ShortSink,
-}
-
-/// Runs the engine that certifies over these devices.
-fn certified<R: Threads + Wait + Abort + Sync>(
-    alloc: Global,
-    rt: &R,
-    verdict: &DecidedTrace,
-    devices: Devices,
-) -> CertifiedRun {
-    let options = options_of(rt, verdict);
-    let Devices {
-        mut trace,
-        mut cert,
-        mut out,
-    } = devices;
-    let run = SearchRun {
-        alloc,
-        rt,
-        options: &options,
-        gate: &OpenGate,
-    };
-    let answer = run_certified_verify(&run, &mut trace, &mut cert, &mut out);
-    CertifiedRun {
-        answer,
-        certificate: cert,
-        report: out,
-    }
-}
-
-/// Returns what the sink takes of the certificate if no device fails. Which derivations it has is not fixed.
-fn whole_certificate<R: Threads + Wait + Abort + Sync>(
-    alloc: Global,
-    rt: &R,
-    verdict: &DecidedTrace,
-) -> ShortSink {
-    let devices = devices_of(alloc, verdict);
-    let ended = certified(alloc, rt, verdict, devices);
-    expect(rt, ended.answer == Ok(Status::No), 0);
-    expect(rt, ended.report.as_slice() == verdict.report, 0);
-    let CertifiedRun { certificate, .. } = ended;
-    certificate
 }
 
 /// The answer that is wanted of a run that certifies, and what the sinks of the certificate and of the report have to take.
@@ -107,60 +80,31 @@ fn cut_off<'a>(certificate: &'a [u8], report: &'a [u8]) -> WantedCertifiedRun<'a
     }
 }
 
-/// A device of a run.
-#[derive(Clone, Copy)]
-enum RunDevice {
-    /// The source of the trace.
-    Trace,
-    /// The sink of the certificate.
-    Cert,
-    /// The sink of the report.
-    Out,
-}
-
-/// Returns devices for the trace that move a byte a call, of which this one fails at this call.
-fn failing_devices(
-    alloc: Global,
-    verdict: &DecidedTrace,
-    device: RunDevice,
-    call: usize,
-) -> Devices {
-    let mut devices = devices_of(alloc, verdict);
-    match device {
-        RunDevice::Trace => devices.trace = failing_at(verdict.trace, call),
-        RunDevice::Cert => devices.cert = sink_failing_at(alloc, call),
-        RunDevice::Out => devices.out = sink_failing_at(alloc, call),
-    }
-    devices
-}
-
-/// Asserts what the engine that certifies answers if this device fails at this call, and what each of the sinks takes.
+/// Asserts what the engine that certifies answers over these devices, and what each of the sinks takes.
 fn assert_certifies<R: Threads + Wait + Abort + Sync>(
     alloc: Global,
     rt: &R,
     verdict: &DecidedTrace,
-    device: RunDevice,
-    call: usize,
+    devices: Devices,
     wanted: WantedCertifiedRun<'_>,
+    number: usize,
 ) {
-    let devices = failing_devices(alloc, verdict, device, call);
-    let ended = certified(alloc, rt, verdict, devices);
-    expect(rt, ended.answer == wanted.answer, call);
-    expect(rt, ended.certificate.as_slice() == wanted.certificate, call);
-    expect(rt, ended.report.as_slice() == wanted.report, call);
-}
-
-/// Asserts that a certificate is accepted of the trace, and what is written of it.
-fn assert_accepted(alloc: Global, rt: &impl Abort, trace: &str, cert: &[u8], line: &[u8]) {
-    let mut trace = source_of(trace);
-    let mut cert = ShortSource::new(cert, 1);
-    let mut out = ShortSink::new(alloc, 1);
-    let answer = run_recheck(alloc, &mut trace, &mut cert, &mut out);
-    let wanted = WantedRun {
-        answer: Ok(Status::Yes),
-        taken: line,
+    let options = options_of(rt, verdict);
+    let Devices {
+        mut trace,
+        mut cert,
+        mut out,
+    } = devices;
+    let run = SearchRun {
+        alloc,
+        rt,
+        options: &options,
+        gate: &OpenGate,
     };
-    assert_run(rt, answer, out.as_slice(), wanted, 0);
+    let outcome = run_certified_verify(&run, &mut trace, &mut cert, &mut out);
+    expect(rt, outcome == wanted.answer, number);
+    expect(rt, cert.as_slice() == wanted.certificate, number);
+    expect(rt, out.as_slice() == wanted.report, number);
 }
 
 #[test]
@@ -179,12 +123,49 @@ fn writes_certificates_that_are_accepted(rt: HostRuntime) {
     }
 }
 
+/// Asserts that nothing is taken if the source fails at this call.
+fn assert_certifies_none<R: Threads + Wait + Abort + Sync>(
+    alloc: Global,
+    rt: &R,
+    verdict: &DecidedTrace,
+    call: usize,
+) {
+    let mut devices = devices_of(alloc, verdict);
+    devices.trace = failing_at(verdict.trace, call);
+    let wanted = cut_off(b"", b"");
+    assert_certifies(alloc, rt, verdict, devices, wanted, call);
+}
+
 #[test]
 fn writes_nothing_if_the_source_fails(rt: HostRuntime) {
     for verdict in &DECIDED_TRACES {
         for call in 1..=verdict.trace.len() + 1 {
-            let wanted = cut_off(b"", b"");
-            assert_certifies(rt.alloc(), &rt, verdict, RunDevice::Trace, call, wanted);
+            assert_certifies_none(rt.alloc(), &rt, verdict, call);
+        }
+    }
+}
+
+/// Asserts what is taken if the certificate's sink fails at this call.
+fn assert_certificate<R: Threads + Wait + Abort + Sync>(
+    alloc: Global,
+    rt: &R,
+    verdict: &DecidedTrace,
+    wanted: WantedCertifiedRun<'_>,
+    call: usize,
+) {
+    let mut devices = devices_of(alloc, verdict);
+    devices.cert = sink_failing_at(alloc, call);
+    assert_certifies(alloc, rt, verdict, devices, wanted, call);
+}
+
+#[test]
+fn writes_no_report_if_the_sink_of_the_certificate_fails(rt: HostRuntime) {
+    for verdict in &DECIDED_TRACES[..CERTIFIED] {
+        let sink = whole_certificate(rt.alloc(), &rt, verdict);
+        let whole = sink.as_slice();
+        for count in 0..whole.len() {
+            let wanted = cut_off(&whole[..count], b"");
+            assert_certificate(rt.alloc(), &rt, verdict, wanted, count + 1);
         }
     }
 }
@@ -197,8 +178,21 @@ fn asks_nothing_of_the_sink_of_the_certificate_for_another_report(rt: HostRuntim
             certificate: b"",
             report: verdict.report,
         };
-        assert_certifies(rt.alloc(), &rt, verdict, RunDevice::Cert, 1, wanted);
+        assert_certificate(rt.alloc(), &rt, verdict, wanted, 1);
     }
+}
+
+/// Asserts what is taken if the report's sink fails at the call after what is wanted of it.
+fn assert_report<R: Threads + Wait + Abort + Sync>(
+    alloc: Global,
+    rt: &R,
+    verdict: &DecidedTrace,
+    wanted: WantedCertifiedRun<'_>,
+) {
+    let call = wanted.report.len().wrapping_add(1);
+    let mut devices = devices_of(alloc, verdict);
+    devices.out = sink_failing_at(alloc, call);
+    assert_certifies(alloc, rt, verdict, devices, wanted, call);
 }
 
 #[test]
@@ -207,20 +201,15 @@ fn writes_the_whole_certificate_before_the_report(rt: HostRuntime) {
         let sink = whole_certificate(rt.alloc(), &rt, verdict);
         let whole = sink.as_slice();
         let report = verdict.report;
-        for count in 0..whole.len() {
-            let wanted = cut_off(&whole[..count], b"");
-            assert_certifies(rt.alloc(), &rt, verdict, RunDevice::Cert, count + 1, wanted);
-        }
         for count in 0..report.len() {
             let wanted = cut_off(whole, &report[..count]);
-            assert_certifies(rt.alloc(), &rt, verdict, RunDevice::Out, count + 1, wanted);
+            assert_report(rt.alloc(), &rt, verdict, wanted);
         }
         let wanted = WantedCertifiedRun {
             answer: Ok(verdict.status),
             certificate: whole,
             report,
         };
-        let behind = report.len().wrapping_add(1);
-        assert_certifies(rt.alloc(), &rt, verdict, RunDevice::Out, behind, wanted);
+        assert_report(rt.alloc(), &rt, verdict, wanted);
     }
 }

@@ -1,4 +1,4 @@
-//! Runs of engines that read a trace or a formula, and other texts, over devices that move a byte a call and fail at one of their calls.
+//! Runs of engines that read a trace and other texts, over sources and a sink that move a byte a call and fail at one of their calls.
 
 use crate::engines::wanted_runs::{WantedRun, assert_run, cut_off};
 use crate::short_devices::{SIZES, failing_at, sink_failing_at, source_of};
@@ -6,9 +6,9 @@ use dimacs::ShortSink;
 use part_report::{run_part, run_part_recheck};
 use std::alloc::Global;
 use std::process::Abort;
-use verdict_report::{Fault, ShortSource, Status, run_decode, run_lrat, run_recheck};
+use verdict_report::{Fault, ShortSource, Status, run_recheck};
 
-/// An engine that reads a trace, or a formula, and other texts.
+/// An engine that reads a trace and other texts.
 #[derive(Clone, Copy)]
 pub enum TextEngine {
     /// Checks a certificate of the trace.
@@ -17,42 +17,18 @@ pub enum TextEngine {
     PartRecheck,
     /// Makes the part of some names, and shows the names if this is true.
     Part(bool),
-    /// Makes a schedule of the trace by a model.
-    Decode,
-    /// Checks a derivation for a formula.
-    Lrat,
-}
-
-impl TextEngine {
-    /// Returns the texts that it reads.
-    fn texts(self) -> &'static [RunText] {
-        match self {
-            TextEngine::PartRecheck => ALL_TEXTS,
-            TextEngine::Part(_) => TRACE_AND_NAMES,
-            _ => TRACE_AND_CERT,
-        }
-    }
 }
 
 /// A text that an engine reads.
 #[derive(Clone, Copy, PartialEq, Eq)]
 pub enum RunText {
-    /// The trace, or the formula.
+    /// The trace.
     Trace,
-    /// The certificate, the model or the derivation.
+    /// The certificate.
     Cert,
     /// The names of operations.
     Names,
 }
-
-/// What an engine reads that checks a certificate of a part.
-const ALL_TEXTS: &[RunText] = &[RunText::Trace, RunText::Cert, RunText::Names];
-
-/// What an engine reads that makes a part.
-const TRACE_AND_NAMES: &[RunText] = &[RunText::Trace, RunText::Names];
-
-/// What an engine reads that takes no names.
-const TRACE_AND_CERT: &[RunText] = &[RunText::Trace, RunText::Cert];
 
 /// A run of an engine: its texts, of which one that it does not read is empty, what it answers, and what it writes.
 pub struct TextRun {
@@ -136,8 +112,6 @@ fn assert_ends(
         TextEngine::Part(shows_names) => {
             run_part(alloc, &mut trace, &mut names, shows_names, &mut out)
         }
-        TextEngine::Decode => run_decode(alloc, &mut trace, &mut cert, &mut out),
-        TextEngine::Lrat => run_lrat(alloc, &mut trace, &mut cert, &mut out),
     };
     assert_run(rt, answer, out.as_slice(), wanted, number);
 }
@@ -156,14 +130,12 @@ pub fn assert_sizes(alloc: Global, rt: &impl Abort, runs: &[TextRun]) {
     }
 }
 
-/// Asserts that nothing is written by any of the runs if the source of one of its texts fails at one of its calls.
-pub fn assert_needs(alloc: Global, rt: &impl Abort, runs: &[TextRun]) {
+/// Asserts that nothing is written by any of the runs if the source of this text fails at one of its calls.
+pub fn assert_needs(alloc: Global, rt: &impl Abort, runs: &[TextRun], text: RunText) {
     for run in runs {
-        for text in run.engine.texts() {
-            for call in 1..=run.length(*text).wrapping_add(1) {
-                let devices = run.failing_devices(alloc, *text, call);
-                assert_ends(alloc, rt, run.engine, devices, cut_off(b""), call);
-            }
+        for call in 1..=run.length(text).wrapping_add(1) {
+            let devices = run.failing_devices(alloc, text, call);
+            assert_ends(alloc, rt, run.engine, devices, cut_off(b""), call);
         }
     }
 }
