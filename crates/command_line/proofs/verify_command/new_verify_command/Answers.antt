@@ -14,12 +14,12 @@ returns-clause-app c =
     c.in_ok-command-2.ensures.app ∙ ap₂ with_rule (ap₂ with_rule first c.workers_argument-workers.ensures.rule) c.split_argument-split.ensures.rule in
     let third : app_of c.in_ok-command-3.command ≡ with_rule (with_rule (with_rule (with_rule (with_rule (with_rule (new_app (codes "verify")) (required_path (codes "trace"))) cert_rule) workers_rule) split_rule) budget_rule) rounds_rule =
     c.in_ok-command-3.ensures.app ∙ ap₂ with_rule (ap₂ with_rule second c.budget_argument-budget.ensures.rule) c.number_argument-rounds.ensures.rule in
-    IfOk-weaker c.with_two-3.result _ _
+    IfOk-weaker c.with_two-4.result _ _
     (λ r h. h ∙ ap₂ with_rule (ap₂ with_rule third c.progress_argument-progress.ensures.rule) c.picture_argument-picture.ensures.rule)
-    c.with_two-3.ensures.app
+    c.with_two-4.ensures.app
 
 pub returns-clause-local : goal.returns-clause-local
 returns-clause-local c =
     let kept : (out-Command c.in_ok-command-3.command).has_globals ≡ false =
     c.in_ok-command-3.ensures.globals ∙ c.in_ok-command-2.ensures.globals ∙ c.in_ok-command.ensures.globals ∙ c.new_command.ensures.local in
-    IfOk-weaker c.with_two-3.result _ _ (λ r h. h ∙ kept) c.with_two-3.ensures.globals
+    IfOk-weaker c.with_two-4.result _ _ (λ r h. h ∙ kept) c.with_two-4.ensures.globals
