@@ -128,6 +128,19 @@ fn push_inconsistent(
     push_number(alloc, text, name, number)
 }
 
+/// Appends the word of an UNKNOWN and how far its survey came.
+fn push_undecided(
+    alloc: Global,
+    text: &mut Vec<u8>,
+    placed: u32,
+    undecided: u32,
+) -> Result<(), AllocError>
+    ensures { OnOk result (text.new.items ≡ text.old.items ++ (codes "\"UNKNOWN\"" ++ (member (codes "placed") placed ++ member (codes "undecided") undecided))) }
+{
+    push_counted(alloc, text, "\"UNKNOWN\"", "placed", placed as usize)?;
+    push_number(alloc, text, "undecided", undecided as usize)
+}
+
 /// Appends the word of a refusal and its object.
 fn push_refused(alloc: Global, text: &mut Vec<u8>, fault: &Fault) -> Result<(), AllocError>
     ensures { OnOk result (text.new.items ≡ text.old.items ++ (codes "\"refused\",\"refusal\":" ++ refusal_object fault.now)) }
@@ -161,10 +174,9 @@ fn push_verdict(alloc: Global, text: &mut Vec<u8>, verdict: &PieceVerdict) -> Re
             reasons,
         } => push_inconsistent(alloc, text, *operations, "reasons", *reasons),
         PieceVerdict::Open { left } => push_counted(alloc, text, "\"UNKNOWN\"", "open", *left),
-        PieceVerdict::Undecided { placed, undecided } => {
-            push_counted(alloc, text, "\"UNKNOWN\"", "placed", *placed as usize)?;
-            push_number(alloc, text, "undecided", *undecided as usize)
-        }
+        PieceVerdict::Undecided { placed, undecided } => push_undecided(
+            alloc, text, *placed, *undecided,
+        ),
         PieceVerdict::Refused(fault) => push_refused(alloc, text, fault),
     }
 }
