@@ -39,7 +39,12 @@ struct Said {
 }
 
 /// The details of the trace in this text, by a search with this budget, and the members that say them.
-fn said<R: Threads + Wait + Sync>(alloc: Global, rt: &R, text: &[u8], budget: u64) -> Option<Said> {
+fn said_of<R: Threads + Wait + Sync>(
+    alloc: Global,
+    rt: &R,
+    text: &[u8],
+    budget: u64,
+) -> Option<Said> {
     let details = found(alloc, rt, text, budget)?;
     let mut members = Vec::new(alloc);
     push_members(alloc, &mut members, &details).ok()?;
@@ -48,7 +53,7 @@ fn said<R: Threads + Wait + Sync>(alloc: Global, rt: &R, text: &[u8], budget: u6
 
 #[test]
 fn schedule_of_a_consistent_trace(rt: HostRuntime) {
-    let Some(said) = said(rt.alloc(), &rt, HAND_OFF, 100_000) else {
+    let Some(said) = said_of(rt.alloc(), &rt, HAND_OFF, 100_000) else {
         return;
     };
     assert!(rt; said.members.as_slice() == b",\"schedule\":[\"P.1\",\"Q.1\"]".as_slice());
@@ -57,7 +62,7 @@ fn schedule_of_a_consistent_trace(rt: HostRuntime) {
 
 #[test]
 fn why_of_an_inconsistent_trace(rt: HostRuntime) {
-    let Some(said) = said(rt.alloc(), &rt, STORE_BUFFERING, 100_000) else {
+    let Some(said) = said_of(rt.alloc(), &rt, STORE_BUFFERING, 100_000) else {
         return;
     };
     assert!(rt; said.members.as_slice().starts_with(b",\"why\":[\""));
@@ -74,7 +79,7 @@ fn why_of_an_inconsistent_trace(rt: HostRuntime) {
 
 #[test]
 fn cubes_of_an_open_trace(rt: HostRuntime) {
-    let Some(said) = said(rt.alloc(), &rt, STORE_BUFFERING, 0) else {
+    let Some(said) = said_of(rt.alloc(), &rt, STORE_BUFFERING, 0) else {
         return;
     };
     assert!(rt; said.members.as_slice() == b",\"open_cubes\":[[3],[-3]]".as_slice());
