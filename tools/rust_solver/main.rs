@@ -45,7 +45,7 @@ use schedule_text::schedule_writer::write_schedule;
 use seat_rounds::seats::Seats;
 use shim::{Global, setting};
 use solver::{PreparedFormula, Search, solve_cube};
-use state_model::{StateSearches, model_by_states};
+use state_model::{StateSearch, model_by_states};
 use std::collections::HashMap;
 use std::env;
 use std::fmt;
@@ -248,6 +248,9 @@ impl<S: SharingLearner + Send> SeatSearch<S> {
                 report.found_by = format!("seat {winner}");
             }
             if let Some(answer) = self.seats.answer(setting!("MOST_STEPS", u64, self.budget)).expect("memory") {
+                if winner_of(&mut self.seats).is_none() {
+                    report.found_by = "counting after a round".to_string();
+                }
                 return Some(answer);
             }
         }
@@ -255,10 +258,12 @@ impl<S: SharingLearner + Send> SeatSearch<S> {
     }
 }
 
-/// A model by searches of states, which is noted as found by those of this name.
-fn model_of(reduced: &Reduced, clauses: &TraceClauses, searches: StateSearches, name: &'static str, report: &mut Report) -> Option<Answer> {
-    let model = model_by_states(Global, reduced.kept(), clauses, searches).expect("memory")?;
-    report.found_by = name.to_string();
+/// A model by a search of states of this name, if there is one. The phase has the same name.
+fn model_of(reduced: &Reduced, clauses: &TraceClauses, search: StateSearch, name: &'static str, report: &mut Report) -> Option<Answer> {
+    let model = model_by_states(Global, reduced.kept(), clauses, search).expect("memory");
+    report.end(name);
+    let model = model?;
+    report.found_by = format!("{name} search");
     Some(Answer::Model(model))
 }
 
@@ -271,22 +276,21 @@ fn search_on<'a>(
     budget: u64,
     report: &mut Report,
 ) -> Answer {
-    let found = model_of(reduced, clauses, StateSearches::Narrow, "narrow search", report);
-    report.end("narrow");
+    let found = model_of(reduced, clauses, StateSearch::Narrow, "narrow", report);
     if let Some(answer) = found {
         return answer;
     }
     shim::note_steps(0, 0);
     let mut seats = SeatSearch::new(prepared.begin_seats(Global, first).expect("memory"), budget, report);
-    let found = seats.go_on(setting!("EARLY_ROUNDS", u64, 8), report);
-    report.end("early");
-    if let Some(answer) = found {
-        return answer;
-    }
-    let found = model_of(reduced, clauses, StateSearches::Broad, "broad search", report);
-    report.end("broad");
-    if let Some(answer) = found {
-        return answer;
+    let early = (setting!("EARLY_ROUNDS", u64, 8), StateSearch::Broad, "early", "broad");
+    let later = (setting!("LATER_ROUNDS", u64, 16), StateSearch::Spendthrift, "later", "spendthrift");
+    for (rounds, search, phase, name) in [early, later] {
+        let found = seats.go_on(rounds, report);
+        report.end(phase);
+        let found = found.or_else(|| model_of(reduced, clauses, search, name, report));
+        if let Some(answer) = found {
+            return answer;
+        }
     }
     let answer = seats.go_on(budget, report);
     report.end("seats");

@@ -8,6 +8,7 @@ use crate::answer::Answer;
 use crate::clause_id::ClauseId;
 use crate::learner::{Learner, SharingLearner};
 use crate::limit::refuted_within;
+use crate::log_chain::LogChain;
 use crate::proof_log::ProofLog;
 use crate::searching::{SearchEnd, search_on};
 use crate::shared_clauses::SharedClauses;
@@ -119,6 +120,29 @@ impl<S: SharingLearner + Drop> Attempt<S> {
         ensures { OnOk result (self.new.log ≡ self.old.log) }
     {
         self.search.take(clauses)
+    }
+
+    /// Goes back to level 0, and returns whether `refute_by_chain` may find an answer there.
+    pub fn is_refutable_at_root(&mut self) -> Result<bool, AllocError>
+        ensures { OnOk result (self.new.log ≡ self.old.log) }
+    {
+        self.search.is_refutable_at_root()
+    }
+
+    /// Returns an answer that takes no further conflict, if there is one at level 0: a derivation of at most `budget` steps, some of which may be additions of
+    /// this chain.
+    pub fn refute_by_chain(
+        &mut self,
+        chain: &LogChain,
+        budget: u64,
+    ) -> Result<Option<Answer>, AllocError>
+        ensures log { OnOk result (self.new.log ≡ self.old.log) }
+        ensures answer { IfOk result (λ found. IfSome found (λ answer. IsWithin budget answer)) }
+    {
+        match self.search.refute_by_chain(chain, budget)? {
+            Some(derivation) => Ok(refuted_within(derivation, budget)),
+            None => Ok(None),
+        }
     }
 
     /// From now on the search goes on in rounds with others. Its log stays as it is.

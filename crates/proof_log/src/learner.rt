@@ -2,6 +2,7 @@
 
 use crate::clause_id::ClauseId;
 use crate::codes::LiteralCode;
+use crate::log_chain::LogChain;
 use crate::proof_log::ProofLog;
 use crate::shared_clauses::SharedClauses;
 use dimacs::Assignment;
@@ -50,4 +51,14 @@ pub trait SharingLearner: Learner {
 
     /// Backtracks to level 0, and adds these clauses, which follow from the formula. They have numbers of their own.
     fn take(&mut self, clauses: &SharedClauses) -> Result<(), AllocError>;
+
+    /// Backtracks to level 0, and answers whether `refute_by_chain` may find a derivation there.
+    fn is_refutable_at_root(&mut self) -> Result<bool, AllocError>;
+
+    /// Looks at level 0, where it stands, for a derivation of at most `budget` steps that takes no further conflict. The chain has what all have learned.
+    fn refute_by_chain(
+        &mut self,
+        chain: &LogChain,
+        budget: u64,
+    ) -> Result<Option<Derivation>, AllocError>;
 }

@@ -3,8 +3,9 @@
 ghost use Rattle.std.specs.Prelude.{◌≡◌, ◌≤◌, ◌+◌, length, IfOk, OnOk};
 
 use crate::clause_id::ClauseId;
+use crate::learned_clauses::LearnedClauses;
 use crate::proof_log::{ProofLog, mark};
-use lrat_check::derivation::Derivation;
+use lrat_check::derivation::{Derivation, Step};
 use std::alloc::{AllocError, Global};
 use std::marker::Model;
 
@@ -63,15 +64,26 @@ impl LogChain {
         width
     }
 
-    /// Returns 1 for each addition on which the clause of this number rests, by its number from the first one on. The logs are asked from the last one
-    /// back, since an addition rests on those of its own log and of earlier ones.
-    fn needed(&self, alloc: Global, clause: ClauseId) -> Result<Vec<u8>, AllocError> {
+    /// Returns 1 for each addition on which these clauses rest, by its number from the first one on. The logs are asked from the last one back, since an
+    /// addition rests on those of its own log and of earlier ones.
+    fn needed(&self, alloc: Global, clauses: &[ClauseId]) -> Result<Vec<u8>, AllocError> {
         let mut needed = vec![in alloc; 0; self.width() as usize]?;
-        mark(&[clause], self.first, needed.as_mut_slice());
+        mark(clauses, self.first, needed.as_mut_slice());
         for log in self.logs.iter().rev() {
             log.mark_needed(self.first, needed.as_mut_slice());
         }
         Ok(needed)
+    }
+
+    /// Returns those additions as steps that are marked, or have no mark at all.
+    fn marked_steps(&self, alloc: Global, marks: &[u8]) -> Result<Vec<Step>, AllocError>
+        ensures { IfOk result (λ steps. length steps.items ≤ self.now) }
+    {
+        let mut steps = Vec::new(alloc);
+        for log in &self.logs {
+            log.push_marked(alloc, self.first, marks, &mut steps)?;
+        }
+        Ok(steps)
     }
 
     /// Returns the derivation of the clause of this number, trimmed to the additions on which it rests. If there is no memory to mark these, it has
@@ -79,14 +91,22 @@ impl LogChain {
     pub fn derivation(&self, alloc: Global, clause: ClauseId) -> Result<Derivation, AllocError>
         ensures { IfOk result (λ derivation. length derivation ≤ self.now) }
     {
-        let needed = match self.needed(alloc, clause) {
+        let needed = match self.needed(alloc, &[clause]) {
             Ok(needed) => needed,
             Err(_) => Vec::new(alloc),
         };
-        let mut steps = Vec::new(alloc);
-        for log in &self.logs {
-            log.push_marked(alloc, self.first, needed.as_slice(), &mut steps)?;
-        }
+        let steps = self.marked_steps(alloc, needed.as_slice())?;
         Ok(Derivation::new(steps))
+    }
+}
+
+impl LearnedClauses for LogChain {
+    fn free_id(&self) -> ClauseId {
+        self.first.ahead(self.width())
+    }
+
+    fn steps_to(&self, alloc: Global, clauses: &[ClauseId]) -> Result<Vec<Step>, AllocError> {
+        let needed = self.needed(alloc, clauses)?;
+        self.marked_steps(alloc, needed.as_slice())
     }
 }

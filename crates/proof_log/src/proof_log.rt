@@ -7,6 +7,7 @@ ghost use Rattle.std.specs.Prelude.{◌≡◌, ◌≤◌, ◌+◌, length, IfOk,
 
 use crate::clause_id::ClauseId;
 use crate::codes::{LiteralCode, literal_of};
+use crate::learned_clauses::LearnedClauses;
 use dimacs::Clause;
 use lrat_check::derivation::{Derivation, Step};
 use lrat_check::hints::Hints;
@@ -227,9 +228,14 @@ impl ProofLog {
         let steps = self.marked_steps(alloc, needed.as_slice())?;
         Ok(Derivation::new(steps))
     }
+}
 
-    /// Returns those additions as steps that are among these clauses or are what these rest on.
-    pub fn steps_to(&self, alloc: Global, clauses: &[ClauseId]) -> Result<Vec<Step>, AllocError> {
+impl LearnedClauses for ProofLog {
+    fn free_id(&self) -> ClauseId {
+        self.next_id()
+    }
+
+    fn steps_to(&self, alloc: Global, clauses: &[ClauseId]) -> Result<Vec<Step>, AllocError> {
         let needed = self.needed(alloc, clauses)?;
         self.marked_steps(alloc, needed.as_slice())
     }

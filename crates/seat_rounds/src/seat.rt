@@ -9,6 +9,8 @@ pub(crate) struct Seat<S> {
     pub(crate) attempt: Attempt<S>,
     /// `None` if it found no memory.
     pub(crate) end: Option<SearchEnd>,
+    /// Whether it is open and a derivation may be found that takes no further conflict.
+    pub(crate) is_refutable: bool,
 }
 
 impl<S: SharingLearner + Drop> Seat<S> {
@@ -17,10 +19,12 @@ impl<S: SharingLearner + Drop> Seat<S> {
         Seat {
             attempt,
             end: Some(SearchEnd::Open),
+            is_refutable: false,
         }
     }
 
-    /// Takes in what the other seats gave, and goes on for at most this many conflicts.
+    /// Takes in what the other seats gave, and goes on for at most this many conflicts. If it is open then, it looks for a contradiction that takes no further
+    /// one: that is done here, and not between the rounds, since all seats do it at once.
     fn try_to_run(
         &mut self,
         number: usize,
@@ -32,11 +36,14 @@ impl<S: SharingLearner + Drop> Seat<S> {
                 self.attempt.take(&given[other])?;
             }
         }
-        self.attempt.run_on(conflicts)
+        let end = self.attempt.run_on(conflicts)?;
+        self.is_refutable = end == SearchEnd::Open && self.attempt.is_refutable_at_root()?;
+        Ok(end)
     }
 
     /// Runs its round, if it takes part: it has this number, the seats gave these clauses, and it goes on for at most this many conflicts.
     pub(crate) fn run(&mut self, number: usize, given: &[SharedClauses], conflicts: u64) {
+        self.is_refutable = false;
         if self.end.is_none() {
             return;
         }

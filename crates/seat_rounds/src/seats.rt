@@ -104,9 +104,40 @@ impl<S: SharingLearner + Drop> Seats<S> {
         }
     }
 
-    /// Returns the answer of the first seat that has one: a model, or a derivation of at most `budget` steps. If the derivation is longer, the answer is
+    /// Returns whether an open seat may have a derivation that takes no further conflict.
+    fn is_refutable(&mut self) -> bool {
+        for slot in self.round.seats.iter_mut() {
+            let seat = slot.get_mut();
+            if seat.is_refutable {
+                return true;
+            }
+        }
+        false
+    }
+
+    /// Returns the answer of the first open seat that has a derivation which takes no further conflict, of at most `budget` steps. It may rest on what any seat
+    /// has learned in any round.
+    fn refutation_at_root(&mut self, budget: u64) -> Result<Option<Answer>, AllocError>
+        ensures { IfOk result (λ found. IfSome found (λ answer. IsWithin budget answer)) }
+    {
+        if !self.is_refutable() {
+            return Ok(None);
+        }
+        self.collect_logs(0)?;
+        for slot in self.round.seats.iter_mut() {
+            let seat = slot.get_mut();
+            if seat.is_refutable
+                && let Some(answer) = seat.attempt.refute_by_chain(&self.chain, budget)?
+            {
+                return Ok(Some(answer));
+            }
+        }
+        Ok(None)
+    }
+
+    /// Returns the answer of the first seat that has ended with one: a model, or a derivation of at most `budget` steps. If the derivation is longer, the answer is
     /// `Open`, and the search ends with it.
-    pub(crate) fn answer(&mut self, budget: u64) -> Result<Option<Answer>, AllocError>
+    fn answer_of_ended(&mut self, budget: u64) -> Result<Option<Answer>, AllocError>
         ensures { IfOk result (λ found. IfSome found (λ answer. IsWithin budget answer)) }
     {
         for slot in self.round.seats.iter_mut() {
@@ -126,5 +157,17 @@ impl<S: SharingLearner + Drop> Seats<S> {
             }
         }
         Ok(None)
+    }
+
+    /// Returns the answer of the last round, if it has one: that of the first seat that has ended, or else of the first that is refuted without a further
+    /// conflict.
+    pub(crate) fn answer(&mut self, budget: u64) -> Result<Option<Answer>, AllocError>
+        ensures { IfOk result (λ found. IfSome found (λ answer. IsWithin budget answer)) }
+    {
+        let found = self.answer_of_ended(budget)?;
+        if found.is_some() {
+            return Ok(found);
+        }
+        self.refutation_at_root(budget)
     }
 }

@@ -35,14 +35,13 @@ impl<'a> Learner for Search<'a> {
         self.after_conflict()
     }
 
-    /// Looks for a Hall violator at level 0. If no event reads and writes there is nothing to count, and going back would only disturb the
-    /// search.
+    /// Looks for a Hall violator at level 0.
     fn refute_at_root(
         &mut self,
         log: &ProofLog,
         budget: u64,
     ) -> Result<Option<Derivation>, AllocError> {
-        if budget == 0 || !self.has_updates() || !self.resume_at_root()? {
+        if budget == 0 || !self.goes_back_to_count()? {
             return Ok(None);
         }
         self.refute_by_counting(log, budget)

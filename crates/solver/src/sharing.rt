@@ -6,8 +6,9 @@ use crate::restart::{ROUNDS_UNIT, Restarts};
 use crate::search::Search;
 use assignment_trail::{OPEN, TRUE};
 use clause_database::Reason;
+use lrat_check::derivation::Derivation;
 use proof_log::codes::{LiteralCode, NEVER};
-use proof_log::{ClauseId, SharedClause, SharedClauses, SharingLearner};
+use proof_log::{ClauseId, LogChain, SharedClause, SharedClauses, SharingLearner};
 use std::alloc::AllocError;
 use total_tables::{at, put, size};
 
@@ -112,5 +113,17 @@ impl<'a> SharingLearner for Search<'a> {
             self.take_clause(clauses.clause(place))?;
         }
         Ok(())
+    }
+
+    fn is_refutable_at_root(&mut self) -> Result<bool, AllocError> {
+        self.lacks_sources()
+    }
+
+    fn refute_by_chain(
+        &mut self,
+        chain: &LogChain,
+        budget: u64,
+    ) -> Result<Option<Derivation>, AllocError> {
+        self.refute_by_counting(chain, budget)
     }
 }

@@ -1,6 +1,6 @@
 //! Hall violators at level 0: readers that cannot all have a source. This is a pigeonhole principle, of which resolution, and so a search
 //! that learns clauses, has only proofs of exponential size (Haken, "The intractability of resolution", 1985). So it is looked for, and
-//! refuted, by counting: before the first decision, and again after each turn of a search, since learned clauses may exclude more sources.
+//! refuted, by counting: before the first decision, and again after each turn or round of a search, since learned clauses may exclude more sources.
 //!
 //! A budget bounds the conflicts of a search, and the steps of a derivation too. A turn is a share of it, at most 500 conflicts (`TURN`).
 
@@ -18,7 +18,7 @@ use counting_proofs::{
 };
 use lrat_check::derivation::{Derivation, Step};
 use proof_log::codes::{LiteralCode, Variable};
-use proof_log::{Answer, ClauseId, ProofLog, TURN, refuted_within};
+use proof_log::{Answer, ClauseId, LearnedClauses, ProofLog, TURN, refuted_within};
 use std::alloc::AllocError;
 
 /// Returns the order that is known at level 0.
@@ -63,7 +63,7 @@ impl<'a> Search<'a> {
         has_updates(self.encoding)
     }
 
-    /// Returns whether there is a Hall violator. Mostly there is none, so a greedy matching is tried first.
+    /// Returns whether there is a Hall violator. Nothing must be decided. Mostly there is none, so a greedy matching is tried first.
     fn has_hall_violator(&self, reads_from: &ReadsFromTable) -> Result<bool, AllocError> {
         let known = known_order(self.encoding, &self.trail, reads_from);
         if has_enough_sources(self.alloc, &self.trail, reads_from, known)? {
@@ -75,13 +75,13 @@ impl<'a> Search<'a> {
 
     /// Derives each of these literals as a unit clause at level 0. Returns the ids of the unit clauses, the proof steps that add them,
     /// after those steps of the log on which they rest, and the next free id.
-    fn unit_clauses(
+    fn unit_clauses<L: LearnedClauses>(
         &mut self,
         literals: &[u32],
-        log: &ProofLog,
+        log: &L,
     ) -> Result<(Vec<ClauseId>, Vec<Step>, ClauseId), AllocError> {
         let alloc = self.alloc;
-        let mut units = UnitClauses::new(alloc, self.variables, log.next_id())?;
+        let mut units = UnitClauses::new(alloc, self.variables, log.free_id())?;
         let mut clauses = Vec::new(alloc);
         for literal in literals {
             clauses.push(self.unit(&mut units, LiteralCode::new(*literal))?)?;
@@ -91,6 +91,23 @@ impl<'a> Search<'a> {
         let mut steps = log.steps_to(alloc, cited.as_slice())?;
         steps.append(&mut units.log.steps(alloc)?)?;
         Ok((clauses, steps, units.log.next_id()))
+    }
+
+    /// Goes back to level 0, and returns whether sources can be counted there. If no event reads and writes there is nothing to count, and going back would only
+    /// disturb the search.
+    pub(crate) fn goes_back_to_count(&mut self) -> Result<bool, AllocError> {
+        Ok(self.has_updates() && self.resume_at_root()?)
+    }
+
+    /// Goes back to level 0, and returns whether there is a Hall violator.
+    pub(crate) fn lacks_sources(&mut self) -> Result<bool, AllocError> {
+        if !self.goes_back_to_count()? {
+            return Ok(false);
+        }
+        match self.encoding.reads_from() {
+            Some(reads_from) => self.has_hall_violator(reads_from),
+            None => Ok(false),
+        }
     }
 
     /// Returns a contradiction at level 0, if there is one, and what is known of all readers. Nothing must be decided. After a conflict at level 0 it is
@@ -111,11 +128,11 @@ impl<'a> Search<'a> {
     }
 
     /// Returns a derivation of the contradiction, if it takes at most `budget` steps. The log has what was learned.
-    fn refute_contradiction(
+    fn refute_contradiction<L: LearnedClauses>(
         &mut self,
         reads: &MatchingInstance,
         found: &SourceContradiction,
-        log: &ProofLog,
+        log: &L,
         budget: u64,
     ) -> Result<Option<Derivation>, AllocError>
         ensures { IfOk result (λ found. IfSome found (λ derivation. length derivation ≤ budget)) }
@@ -141,11 +158,11 @@ impl<'a> Search<'a> {
     }
 
     /// Returns a derivation of at most `budget` steps, if there is a contradiction of readers and sources. The log has what was learned,
-    /// and nothing is decided. It is called after a turn, and for a formula before its cubes are searched (`whole.rt`). If the derivation takes more steps,
+    /// and nothing is decided. It is called after a turn and after a round, and for a formula before its cubes are searched (`whole.rt`). If the derivation takes more steps,
     /// the search goes on, or begins.
-    pub(crate) fn refute_by_counting(
+    pub(crate) fn refute_by_counting<L: LearnedClauses>(
         &mut self,
-        log: &ProofLog,
+        log: &L,
         budget: u64,
     ) -> Result<Option<Derivation>, AllocError>
         ensures { IfOk result (λ found. IfSome found (λ derivation. length derivation ≤ budget)) }

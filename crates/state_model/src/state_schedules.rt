@@ -1,25 +1,27 @@
-//! Searches of states, one after the other, until one has found a schedule of the whole trace.
+//! Searches of states that look for a schedule of the whole trace.
 
 use crate::model::model_along;
 use clause_blocks::trace_clauses::TraceClauses;
 use dimacs::Assignment;
-use numbered_log::{Budget, NumberedLog, OperationId};
+use numbered_log::{Budget, NumberedLog};
 use state_search::{Breadth, schedule_by_states};
 use std::alloc::{AllocError, Global};
 use trace_log::log_of;
 use trace_semantics::trace::Trace;
 
-/// Which searches of states look for a schedule.
+/// A search of states that looks for a schedule.
 #[derive(Clone, Copy)]
-pub enum StateSearches {
-    /// One that goes on from few states.
+pub enum StateSearch {
+    /// It goes on from few states.
     Narrow,
-    /// Two that go on from more states. For the second it matters less that a value has few spare times.
+    /// It goes on from more states.
     Broad,
+    /// It goes on from as many, but it matters little to it that a value has few spare times.
+    Spendthrift,
 }
 
 /// The states of a layer times the number of processes: more processes have more that can come next, so fewer states make as much work. In a prototype
-/// the narrow search scheduled 58 of 73 hard traces with a schedule, and with the two broad ones 70, where a layer had 300 and 1,000 states, as with eight processes.
+/// the narrow search scheduled 58 of 73 hard traces with a schedule, and with two broad ones 70, where a layer had 300 and 1,000 states, as with eight processes.
 const NARROW_STATES: u32 = 2_400;
 
 /// The same of the broad searches, which take three times as long each.
@@ -45,57 +47,35 @@ fn busy_processes(log: &NumberedLog) -> u32 {
     count
 }
 
-/// The schedule that a search finds which goes on from this many states, times the number of processes, and weighs spare times so.
-fn search(
-    alloc: Global,
-    log: &NumberedLog,
-    states_by_processes: u32,
-    spare_weight: u32,
-) -> Result<Option<Vec<OperationId>>, AllocError> {
-    let processes = busy_processes(log);
-    let states = if processes == 0 {
-        1
-    } else {
-        states_by_processes / processes
+/// How broad this search of the log is.
+fn breadth_of(log: &NumberedLog, search: StateSearch) -> Breadth {
+    let (states, spare_weight) = match search {
+        StateSearch::Narrow => (NARROW_STATES, SPARE_WEIGHT),
+        StateSearch::Broad => (BROAD_STATES, SPARE_WEIGHT),
+        StateSearch::Spendthrift => (BROAD_STATES, SMALL_SPARE_WEIGHT),
     };
-    let breadth = Breadth {
-        states,
+    // A log without operations has one state.
+    let processes = busy_processes(log).max(1);
+    Breadth {
+        states: states / processes,
         spare_weight,
-    };
-    schedule_by_states(alloc, log, breadth, Budget::new(LOOKS))
-}
-
-/// The schedule of the first of these searches that finds one.
-fn schedule_of(
-    alloc: Global,
-    log: &NumberedLog,
-    searches: StateSearches,
-) -> Result<Option<Vec<OperationId>>, AllocError> {
-    match searches {
-        StateSearches::Narrow => search(alloc, log, NARROW_STATES, SPARE_WEIGHT),
-        StateSearches::Broad => {
-            let found = search(alloc, log, BROAD_STATES, SPARE_WEIGHT)?;
-            if found.is_some() {
-                return Ok(found);
-            }
-            search(alloc, log, BROAD_STATES, SMALL_SPARE_WEIGHT)
-        }
     }
 }
 
-/// A model of these clauses, which are those of the trace, if one of these searches of states schedules it. Such a search heeds program order alone,
-/// so a trace that says of other operations which stands first is left to others. So is one with a value of a known origin.
+/// A model of these clauses, which are those of the trace, if this search of states schedules it. Such a search heeds program order alone, so a trace that
+/// says of other operations which stands first is left to others. So is one with a value of a known origin.
 pub fn model_by_states(
     alloc: Global,
     trace: &Trace,
     clauses: &TraceClauses,
-    searches: StateSearches,
+    search: StateSearch,
 ) -> Result<Option<Assignment>, AllocError> {
     if !clauses.layout().before().is_empty() {
         return Ok(None);
     }
     let log = log_of(alloc, trace)?;
-    match schedule_of(alloc, &log, searches)? {
+    let breadth = breadth_of(&log, search);
+    match schedule_by_states(alloc, &log, breadth, Budget::new(LOOKS))? {
         Some(schedule) => Ok(Some(model_along(alloc, clauses, schedule.as_slice())?)),
         None => Ok(None),
     }

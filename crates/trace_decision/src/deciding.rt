@@ -29,7 +29,7 @@ use result_ledger::{Ledger, Verdict, inconsistent_has_no_model, unknown_holds_al
 use schedule_decode::decode::schedule_of;
 use seat_rounds::SeatSearch;
 use solver::{Answer, CubeSolver, PreparedFormula, ReadsFromTable, Search, SourceCounter};
-use state_model::{StateSearches, model_by_states};
+use state_model::{StateSearch, model_by_states};
 use std::alloc::{AllocError, Global};
 use std::sync::Wait;
 use std::thread::Threads;
@@ -122,11 +122,13 @@ struct KeptTrace<'a> {
     clauses: &'a TraceClauses,
 }
 
-/// Rounds of the four searches before the broad searches of states, which take about as long as these rounds do. An easy trace is decided in fewer.
-const EARLY_ROUNDS: u64 = 8;
+/// The broad searches of states, each after some further rounds of the four searches. An easy trace is decided in fewer rounds, and most that have a
+/// schedule that the narrow search does not find get it from the first of these.
+const BROAD_SEARCHES: [(u64, StateSearch); 2] =
+    [(8, StateSearch::Broad), (16, StateSearch::Spendthrift)];
 
-/// Goes on where one search of the whole formula has stopped: a narrow search of the trace's states looks for a schedule, four searches go on for some rounds,
-/// broad searches of states look for a schedule, and then the four go on until the budget is used up.
+/// Goes on where one search of the whole formula has stopped: a narrow search of the trace's states looks for a schedule, and then four searches go on until the
+/// budget is used up, between whose rounds broad searches of states look for one.
 fn search_on<'a, R: Threads + Wait + Sync, G: Gate>(
     run: &SearchRun<'_, R, G>,
     kept: KeptTrace<'_>,
@@ -136,16 +138,18 @@ fn search_on<'a, R: Threads + Wait + Sync, G: Gate>(
     let alloc = run.alloc;
     let clauses = kept.clauses;
     let budget = run.options.budget();
-    if let Some(model) = model_by_states(alloc, kept.trace, clauses, StateSearches::Narrow)? {
+    if let Some(model) = model_by_states(alloc, kept.trace, clauses, StateSearch::Narrow)? {
         return Ok(Answer::Model(model));
     }
     let tree = grow(alloc, clauses.layout(), SEATS_DEPTH)?;
     let mut seats = SeatSearch::new(alloc, prepared.begin_seats(alloc, first)?, budget)?;
-    if let Some(answer) = seats.go_on(run, clauses, &tree, EARLY_ROUNDS, budget)? {
-        return Ok(answer);
-    }
-    if let Some(model) = model_by_states(alloc, kept.trace, clauses, StateSearches::Broad)? {
-        return Ok(Answer::Model(model));
+    for (rounds, search) in &BROAD_SEARCHES {
+        if let Some(answer) = seats.go_on(run, clauses, &tree, *rounds, budget)? {
+            return Ok(answer);
+        }
+        if let Some(model) = model_by_states(alloc, kept.trace, clauses, *search)? {
+            return Ok(Answer::Model(model));
+        }
     }
     // Each round takes a conflict off the budget at least, so there is no further round after as many.
     let answer = seats.go_on(run, clauses, &tree, budget, budget)?;
