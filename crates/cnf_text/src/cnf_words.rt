@@ -1,6 +1,6 @@
 //! The words of a formula's text as literals and as ends of clauses.
 
-ghost use Rattle.std.specs.Prelude.{◌≡◌, ◌≤◌, ℤ, pos, neg_ℤ, true, if◌then◌else◌, Some, None, MatchResult, MatchOption};
+ghost use Rattle.std.specs.Prelude.{◌≡◌, ◌≤◌, ℤ, pos, true, Some, None, MatchResult, MatchOption};
 ghost use Rattle.text_lines.specs.Numbers.{solver_number};
 ghost use Rattle.cnf_text.specs.CnfReading.{number_fault};
 ghost use Rattle.dimacs.specs.Literal.{is_literal_up_to};
@@ -8,20 +8,6 @@ ghost use Rattle.dimacs.specs.Literal.{is_literal_up_to};
 use crate::cnf_fault::CnfCause;
 use dimacs::{Lit, MAX_VARIABLE};
 use text_lines::numbers::read_solver_number;
-
-/// The literal of a variable that is not 0.
-fn literal_of(variable: u32, is_negative: bool) -> Lit
-    requires first { 1 ≤ variable }
-    requires last { variable ≤ MAX_VARIABLE }
-    ensures { result ≡ (if is_negative then neg_ℤ (pos variable) else pos variable) }
-{
-    let literal = Lit::positive(variable);
-    if is_negative {
-        literal.negated()
-    } else {
-        literal
-    }
-}
 
 /// The literal that the word writes; nothing if it writes 0.
 pub(crate) fn read_literal(word: &[u8], variables: u32) -> Result<Option<Lit>, CnfCause>
@@ -43,5 +29,5 @@ pub(crate) fn read_literal(word: &[u8], variables: u32) -> Result<Option<Lit>, C
     if variable == 0 {
         return Ok(None);
     }
-    Ok(Some(literal_of(variable as u32, number.is_negative)))
+    Ok(Some(Lit::signed(variable as u32, number.is_negative)))
 }

@@ -1,5 +1,5 @@
 //! Literals: a variable or its negation.
-ghost use Rattle.std.specs.Prelude.{◌≡◌, ◌≤◌, ◌↔◌, ℕ, pos, neg_ℤ, nat_abs, Bool, not, IsTrue, IsSome, IfSome};
+ghost use Rattle.std.specs.Prelude.{◌≡◌, ◌≤◌, ◌↔◌, ℕ, pos, neg_ℤ, nat_abs, Bool, not, IsTrue, IsSome, if◌then◌else◌, IfSome};
 ghost use Rattle.std.specs.Int.{is_positive};
 ghost use Rattle.dimacs.specs.Assignment.{makes_true};
 ghost use Rattle.dimacs.specs.Literal.{is_literal, is_literal_up_to};
@@ -48,6 +48,21 @@ impl Lit {
     {
         Lit {
             number: variable as i32,
+        }
+    }
+
+    /// The literal that says that the variable is true, or is not, if it is to be negative.
+    #[inline(always)]
+    pub fn signed(variable: u32, is_negative: bool) -> Lit
+        requires first { 1 ≤ variable }
+        requires last { variable ≤ MAX_VARIABLE }
+        ensures { result ≡ (if is_negative then neg_ℤ (pos variable) else pos variable) }
+    {
+        let literal = Lit::positive(variable);
+        if is_negative {
+            literal.negated()
+        } else {
+            literal
         }
     }
 

@@ -97,12 +97,7 @@ pub fn read_literal(word: &[u8]) -> Result<Option<Lit>, LratCause>
     match number.magnitude {
         Some(0) => Ok(None),
         Some(variable) if variable <= u64::from(MAX_VARIABLE) => {
-            let literal = Lit::positive(variable as u32);
-            if number.is_negative {
-                Ok(Some(literal.negated()))
-            } else {
-                Ok(Some(literal))
-            }
+            Ok(Some(Lit::signed(variable as u32, number.is_negative)))
         }
         _ => Err(LratCause::BadNumber),
     }

@@ -128,21 +128,6 @@ fn without_minus(text: &[u8]) -> &[u8]
     }
 }
 
-/// The literal of this variable.
-#[inline(always)]
-fn literal_of(variable: u32, is_negative: bool) -> Lit
-    requires first { 1 ≤ variable }
-    requires last { variable ≤ most_variable }
-    ensures { result ≡ (if is_negative then neg_ℤ (pos variable) else pos variable) }
-{
-    let literal = Lit::positive(variable);
-    if is_negative {
-        literal.negated()
-    } else {
-        literal
-    }
-}
-
 /// Adds the literals at the front of the line that are short numbers or ones after a minus, up to a 0 or another word. Gives what follows.
 pub(crate) fn push_short_literals<'x>(
     literals: &mut Vec<Lit>,
@@ -157,7 +142,7 @@ pub(crate) fn push_short_literals<'x>(
         if count == 0 || variable == 0 || variable > u64::from(MAX_VARIABLE) {
             return Ok(rest);
         }
-        literals.push(literal_of(variable as u32, begins_with_minus(rest)))?;
+        literals.push(Lit::signed(variable as u32, begins_with_minus(rest)))?;
         rest = behind(digits, count);
     }
 }

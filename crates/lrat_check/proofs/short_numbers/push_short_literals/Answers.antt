@@ -24,7 +24,7 @@ loop-digits-preserved c =
     let first : IsFirstNumber c.loop-digits.rest.now (cond c.begins_with_minus.result (neg_ℤ (pos c.short_number-variable.result.0)) (pos c.short_number-variable.result.0)) c.behind-rest.result.now =
     subst (λ (t : List ℕ). IsFirstNumber rest z t) (sym behind) (signed_number rest c.begins_with_minus.result variable count (sym c.begins_with_minus.ensures) more c.if-variable-eq0.false short) in
     let new : c.push.new.self.items ≡ c.loop-digits.literals.items ++ (cond c.begins_with_minus.result (neg_ℤ (pos c.short_number-variable.result.0)) (pos c.short_number-variable.result.0)) ∷ [] =
-    c.in_ok-push.ensures.items ∙ ap (λ (y : ℤ). c.loop-digits.literals.items ++ y ∷ []) c.literal_of.ensures in
+    c.in_ok-push.ensures.items ∙ ap (λ (y : ℤ). c.loop-digits.literals.items ++ y ∷ []) c.signed.ensures in
     subst (λ (ns : List ℤ). ReadsOn literal_fault is_literal c.args.literals.now.items c.args.line.now ns after) (sym new)
     (reads_number literal_fault is_literal c.args.literals.now.items c.args.line.now c.loop-digits.literals.items rest after z c.loop-digits.invariant first
     (literal_right z good) (literal_not_zero z good) good)
