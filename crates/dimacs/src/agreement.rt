@@ -21,6 +21,24 @@ pub(crate) struct AgreeingLiterals {
     pub(crate) third: Lit,
 }
 
+impl AgreeingLiterals {
+    /// The literals of the clause that says that the third is true if the first two are.
+    #[inline(always)]
+    pub(crate) fn if_true(&self) -> [Lit; 3]
+        ensures { result ≡ neg_ℤ self.now.first ∷ neg_ℤ self.now.second ∷ self.now.third ∷ [] }
+    {
+        [self.first.negated(), self.second.negated(), self.third]
+    }
+
+    /// The literals of the clause that says that the third is false if the first two are.
+    #[inline(always)]
+    pub(crate) fn if_false(&self) -> [Lit; 3]
+        ensures { result ≡ self.now.first ∷ self.now.second ∷ neg_ℤ self.now.third ∷ [] }
+    {
+        [self.first, self.second, self.third.negated()]
+    }
+}
+
 /// The texts of the three literals, each of which says that its variable is true.
 #[derive(Drop)]
 struct AgreementTexts {
@@ -41,13 +59,13 @@ impl Model for AgreementTexts {
 impl AgreementTexts {
     /// The texts of the three literals, if the table has them. It has none of a literal that says that its variable is false.
     #[inline(always)]
-    fn of(first: Lit, second: Lit, third: Lit, table: &VariableTable) -> Option<AgreementTexts>
-        ensures { IfSome result (λ texts. texts ≡ flat_map clause_line ((neg_ℤ first ∷ neg_ℤ second ∷ third ∷ []) ∷ (first ∷ second ∷ neg_ℤ third ∷ []) ∷ [])) }
+    fn of(literals: &AgreeingLiterals, table: &VariableTable) -> Option<AgreementTexts>
+        ensures { IfSome result (λ texts. texts ≡ flat_map clause_line ((neg_ℤ literals.now.first ∷ neg_ℤ literals.now.second ∷ literals.now.third ∷ []) ∷ (literals.now.first ∷ literals.now.second ∷ neg_ℤ literals.now.third ∷ []) ∷ [])) }
     {
         Some(AgreementTexts {
-            first: table.text_of(first)?,
-            second: table.text_of(second)?,
-            third: table.text_of(third)?,
+            first: table.text_of(literals.first)?,
+            second: table.text_of(literals.second)?,
+            third: table.text_of(literals.third)?,
         })
     }
 
@@ -72,21 +90,17 @@ impl AgreementTexts {
 /// Writes the lines one after the other.
 #[inline(never)]
 fn put_one_by_one(
-    first: Lit,
-    second: Lit,
-    third: Lit,
+    literals: &AgreeingLiterals,
     table: &VariableTable,
     buffer: &mut [u8],
     at: usize,
 ) -> usize
     requires { at + AGREEMENT ≤ length buffer.old }
     ensures within { result ≤ length buffer.new }
-    ensures written { take result buffer.new ≡ take at buffer.old ++ flat_map clause_line ((neg_ℤ first ∷ neg_ℤ second ∷ third ∷ []) ∷ (first ∷ second ∷ neg_ℤ third ∷ []) ∷ []) }
+    ensures written { take result buffer.new ≡ take at buffer.old ++ flat_map clause_line ((neg_ℤ literals.now.first ∷ neg_ℤ literals.now.second ∷ literals.now.third ∷ []) ∷ (literals.now.first ∷ literals.now.second ∷ neg_ℤ literals.now.third ∷ []) ∷ []) }
 {
-    let opposite = [first.negated(), second.negated(), third];
-    let end = put_short_clause(&opposite, table, buffer, at);
-    let same = [first, second, third.negated()];
-    put_short_clause(&same, table, buffer, end)
+    let end = put_short_clause(&literals.if_true(), table, buffer, at);
+    put_short_clause(&literals.if_false(), table, buffer, end)
 }
 
 /// Writes the lines of both clauses: at once, if the table has the variables' texts.
@@ -101,13 +115,8 @@ pub(crate) fn put_both_lines(
     ensures within { result ≤ length buffer.new }
     ensures written { take result buffer.new ≡ take at buffer.old ++ flat_map clause_line ((neg_ℤ literals.first ∷ neg_ℤ literals.second ∷ literals.third ∷ []) ∷ (literals.first ∷ literals.second ∷ neg_ℤ literals.third ∷ []) ∷ []) }
 {
-    let AgreeingLiterals {
-        first,
-        second,
-        third,
-    } = literals;
-    match AgreementTexts::of(first, second, third, table) {
+    match AgreementTexts::of(&literals, table) {
         Some(texts) => texts.put(buffer, at),
-        None => put_one_by_one(first, second, third, table, buffer, at),
+        None => put_one_by_one(&literals, table, buffer, at),
     }
 }

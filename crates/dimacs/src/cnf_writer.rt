@@ -140,15 +140,8 @@ fn put_each_line<W: Sink>(
     ensures failed { OnErr result (W.failures sink.new ≡ W.failures sink.old + 1) }
     ensures same { W.path sink.new ≡ W.path sink.old }
 {
-    let AgreeingLiterals {
-        first,
-        second,
-        third,
-    } = literals;
-    let opposite = [first.negated(), second.negated(), third];
-    let kept = put_line(&opposite, table, buffer, at, sink)?;
-    let same = [first, second, third.negated()];
-    put_line(&same, table, buffer, kept, sink)
+    let kept = put_line(&literals.if_true(), table, buffer, at, sink)?;
+    put_line(&literals.if_false(), table, buffer, kept, sink)
 }
 
 /// Writes the same two lines: at once, if the buffer has room. The place where the text ends in the buffer is returned, also by the other functions

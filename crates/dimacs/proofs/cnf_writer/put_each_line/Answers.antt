@@ -7,7 +7,7 @@ use Rattle.dimacs.proofs.cnf_writer.put_each_line.Goals as goal
 
 pub returns-in_err-kept-clause-front : goal.returns-in_err-kept-clause-front
 returns-in_err-kept-clause-front g c =
-    let opposite : (c.negated.result ∷ c.negated-2.result ∷ c.args.literals.third ∷ []) ≡ (neg_ℤ c.args.literals.first ∷ neg_ℤ c.args.literals.second ∷ c.args.literals.third ∷ []) = λ p. c.negated.ensures.number p ∷ c.negated-2.ensures.number p ∷ c.args.literals.third ∷ [] in
+    let opposite : c.if_true.result ≡ (neg_ℤ c.args.literals.first ∷ neg_ℤ c.args.literals.second ∷ c.args.literals.third ∷ []) = c.if_true.ensures in
     let head = take c.args.at c.args.buffer.now in
     on_err c.from_residual.result
     (first_front head (clause_line (neg_ℤ c.args.literals.first ∷ neg_ℤ c.args.literals.second ∷ c.args.literals.third ∷ [])) (clause_line (c.args.literals.first ∷ c.args.literals.second ∷ neg_ℤ c.args.literals.third ∷ [])) _ _
@@ -15,8 +15,8 @@ returns-in_err-kept-clause-front g c =
 
 pub returns-clause-sent : goal.returns-clause-sent
 returns-clause-sent g c =
-    let opposite : (c.negated.result ∷ c.negated-2.result ∷ c.args.literals.third ∷ []) ≡ (neg_ℤ c.args.literals.first ∷ neg_ℤ c.args.literals.second ∷ c.args.literals.third ∷ []) = λ p. c.negated.ensures.number p ∷ c.negated-2.ensures.number p ∷ c.args.literals.third ∷ [] in
-    let same : (c.args.literals.first ∷ c.args.literals.second ∷ c.negated-3.result ∷ []) ≡ (c.args.literals.first ∷ c.args.literals.second ∷ neg_ℤ c.args.literals.third ∷ []) = λ p. c.args.literals.first ∷ c.args.literals.second ∷ c.negated-3.ensures.number p ∷ [] in
+    let opposite : c.if_true.result ≡ (neg_ℤ c.args.literals.first ∷ neg_ℤ c.args.literals.second ∷ c.args.literals.third ∷ []) = c.if_true.ensures in
+    let same : c.if_false.result ≡ (c.args.literals.first ∷ c.args.literals.second ∷ neg_ℤ c.args.literals.third ∷ []) = c.if_false.ensures in
     let head = take c.args.at c.args.buffer.now in
     let kept = take c.in_ok-kept.kept c.put_line.new.buffer in
     IfOk-weaker c.put_line-2.result _ _ (λ end t.
@@ -26,8 +26,8 @@ returns-clause-sent g c =
 
 pub returns-clause-front : goal.returns-clause-front
 returns-clause-front g c =
-    let opposite : (c.negated.result ∷ c.negated-2.result ∷ c.args.literals.third ∷ []) ≡ (neg_ℤ c.args.literals.first ∷ neg_ℤ c.args.literals.second ∷ c.args.literals.third ∷ []) = λ p. c.negated.ensures.number p ∷ c.negated-2.ensures.number p ∷ c.args.literals.third ∷ [] in
-    let same : (c.args.literals.first ∷ c.args.literals.second ∷ c.negated-3.result ∷ []) ≡ (c.args.literals.first ∷ c.args.literals.second ∷ neg_ℤ c.args.literals.third ∷ []) = λ p. c.args.literals.first ∷ c.args.literals.second ∷ c.negated-3.ensures.number p ∷ [] in
+    let opposite : c.if_true.result ≡ (neg_ℤ c.args.literals.first ∷ neg_ℤ c.args.literals.second ∷ c.args.literals.third ∷ []) = c.if_true.ensures in
+    let same : c.if_false.result ≡ (c.args.literals.first ∷ c.args.literals.second ∷ neg_ℤ c.args.literals.third ∷ []) = c.if_false.ensures in
     let head = take c.args.at c.args.buffer.now in
     let kept = take c.in_ok-kept.kept c.put_line.new.buffer in
     on_err_map c.put_line-2.result (λ f.
