@@ -1,6 +1,6 @@
 //! The lines of a text.
 
-ghost use Rattle.std.specs.Prelude.{◌≡◌, ◌<◌, [], ◌∷◌, ◌++◌, ℕ, List, false, length, position, MatchOption};
+ghost use Rattle.std.specs.Prelude.{◌≡◌, ◌<◌, [], ◌∷◌, ◌++◌, ℕ, Bool, List, false, length, position, IfSome, MatchOption};
 ghost use Rattle.std.specs.List.{before_first, after_first, list_any};
 ghost use Rattle.text_lines.specs.Lines.{lines_of, is_line_feed};
 
@@ -13,12 +13,14 @@ fn find_line_feed(text: &[u8]) -> Option<usize>
     memchr(b'\n', text)
 }
 
-/// Gives what stands before the first line feed, and what stands after it.
-fn cut_at_line_feed(text: &[u8]) -> (&[u8], &[u8])
-    ensures front { result.0.now ≡ before_first is_line_feed text.now }
-    ensures back { result.1.now ≡ after_first is_line_feed text.now }
+/// Gives what stands before this place, and what stands after it; without a place all of the text, and nothing.
+#[inline(always)]
+pub(crate) fn cut_at(text: &[u8], place: Option<usize>) -> (&[u8], &[u8])
+    requires { IfSome place (λ end. end < length text.now) }
+    ensures front { (ends : ℕ → Bool) → place ≡ position ends text.now → result.0.now ≡ before_first ends text.now }
+    ensures back { (ends : ℕ → Bool) → place ≡ position ends text.now → result.1.now ≡ after_first ends text.now }
 {
-    match find_line_feed(text) {
+    match place {
         Some(end) => (&text[..end], &text[end + 1..]),
         None => (text, &[]),
     }
@@ -33,7 +35,7 @@ pub fn cut_line(text: &[u8]) -> Option<(&[u8], &[u8])>
     if text.is_empty() {
         return None;
     }
-    Some(cut_at_line_feed(text))
+    Some(cut_at(text, find_line_feed(text)))
 }
 
 /// Bytes without a line feed, after which one stands, are the first line.

@@ -103,7 +103,8 @@ pub struct SolverNumber {
 }
 
 /// The digits of a solver number, without the minus that may stand before them.
-fn without_minus(word: &[u8]) -> &[u8]
+#[inline(always)]
+pub fn without_minus(word: &[u8]) -> &[u8]
     ensures { result.now ≡ digits_after_sign word.now }
 {
     if begins_with_minus(word) {
@@ -113,7 +114,9 @@ fn without_minus(word: &[u8]) -> &[u8]
     }
 }
 
-fn begins_with_minus(word: &[u8]) -> bool
+/// Returns whether a minus stands first.
+#[inline(always)]
+pub fn begins_with_minus(word: &[u8]) -> bool
     ensures { result ≡ has_minus word.now }
 {
     !word.is_empty() && word[0] == b'-'

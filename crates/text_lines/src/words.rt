@@ -1,10 +1,11 @@
 //! The words of a line.
 
 ghost use Rattle.std.specs.Prelude.{◌≡◌, ◌<◌, [], ◌∷◌, ◌++◌, ℕ, List, true, false, length, take, map, not, position, MatchOption};
-ghost use Rattle.std.specs.List.{before_first, after_first, list_any};
+ghost use Rattle.std.specs.List.{list_any};
 ghost use Rattle.std.specs.Str.{bytes_eq};
 ghost use Rattle.text_lines.specs.Words.{words_of, is_blank};
 
+use crate::lines::cut_at;
 use short_lists::inline_list::InlineList;
 
 /// Returns whether the byte is a space, a tab or a carriage return.
@@ -35,24 +36,16 @@ fn find_word(line: &[u8]) -> Option<usize>
     line.iter().position(|byte| !is_blank_byte(*byte))
 }
 
-/// Gives what stands before the first blank, and what stands after it.
-fn cut_at_blank(line: &[u8]) -> (&[u8], &[u8])
-    ensures front { result.0.now ≡ before_first is_blank line.now }
-    ensures back { result.1.now ≡ after_first is_blank line.now }
-{
-    match find_blank(line) {
-        Some(end) => (&line[..end], &line[end + 1..]),
-        None => (line, &[]),
-    }
-}
-
 /// The first word of the line and what follows it; nothing if the line has no word.
 pub fn cut_word(line: &[u8]) -> Option<(&[u8], &[u8])>
     ensures words { MatchOption result (words_of line.now ≡ []) (λ cut. words_of line.now ≡ cut.0.now ∷ words_of cut.1.now) }
     ensures shorter { MatchOption result (words_of line.now ≡ []) (λ cut. length cut.1.now < length line.now) }
 {
     match find_word(line) {
-        Some(start) => Some(cut_at_blank(&line[start..])),
+        Some(start) => {
+            let words = &line[start..];
+            Some(cut_at(words, find_blank(words)))
+        }
         None => None,
     }
 }

@@ -10,7 +10,7 @@ returns-in-Some-clause-words c =
     let at = word_at c.args.line.now c.in-Some.start c.in-Some.ensures in
     let rest : take (length c.args.line.now - c.in-Some.start) (drop c.in-Some.start c.args.line.now) ≡ drop c.in-Some.start c.args.line.now = take_rest c.args.line.now c.in-Some.start in
     words_from c.args.line.now c.in-Some.start at.0 at.1
-    ∙ (λ i. (ap (before_first is_blank) (sym rest) ∙ sym c.cut_at_blank.ensures.front) i ∷ words_of ((ap (after_first is_blank) (sym rest) ∙ sym c.cut_at_blank.ensures.back) i))
+    ∙ (λ i. (ap (before_first is_blank) (sym rest) ∙ sym (c.cut_at.ensures.front is_blank c.find_blank.ensures)) i ∷ words_of ((ap (after_first is_blank) (sym rest) ∙ sym (c.cut_at.ensures.back is_blank c.find_blank.ensures)) i))
 
 pub returns-in-None-clause-words : goal.returns-in-None-clause-words
 returns-in-None-clause-words c = words_none c.args.line.now (no_word c.args.line.now c.in-None.ensures)
