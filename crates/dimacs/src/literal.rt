@@ -51,7 +51,7 @@ impl Lit {
         }
     }
 
-    /// The literal that says that the variable is true, or is not, if it is to be negative.
+    /// The literal that says that the variable is true, or, with a minus, that it is false.
     #[inline(always)]
     pub fn signed(variable: u32, is_negative: bool) -> Lit
         requires first { 1 ≤ variable }

@@ -17,6 +17,7 @@ pub mod hints;
 pub mod ids;
 mod justification;
 pub mod laws;
+mod listed_number;
 mod literal_counts;
 pub mod lrat_fault;
 pub mod lrat_laws;

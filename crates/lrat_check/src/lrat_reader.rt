@@ -1,6 +1,6 @@
 //! The reader of a derivation's text.
 
-ghost use Rattle.std.specs.Prelude.{◌≡◌, [], ◌∷◌, map, pos, codes, true, false, Some, MatchOption, MatchResult, IfOk, IfErr};
+ghost use Rattle.std.specs.Prelude.{◌≡◌, [], ◌∷◌, map, pos, codes, false, Some, MatchOption, MatchResult, IfOk, IfErr};
 ghost use Rattle.std.specs.Option.{option_or};
 ghost use Rattle.dimacs.specs.Literal.{is_literal};
 ghost use Rattle.lrat_check.specs.LratFaults.{literal_fault, hint_fault, id_fault, first_fault, behind_fault, addition_fault, deletion_fault, is_deletion, line_fault, HasLratFault};
@@ -14,9 +14,10 @@ ghost use Rattle.text_lines.specs.Words.{words_of};
 use crate::derivation::{Derivation, Step};
 use crate::hints::Hints;
 use crate::ids::Ids;
+use crate::listed_number::ListedNumber;
 use crate::lrat_fault::{LratCause, LratFault};
-use crate::lrat_number::{read_first, read_hint, read_id, read_literal};
-use crate::short_numbers::{behind_zero, push_short_hints, push_short_ids, push_short_literals};
+use crate::lrat_number::read_first;
+use crate::short_numbers::behind_zero;
 use dimacs::{Clause, Lit};
 use std::alloc::Global;
 use text_lines::comments::begins_dimacs_comment;
@@ -32,8 +33,36 @@ struct LineRooms {
     literals: Vec<Lit>,
 }
 
-/// The ids up to the first 0 of the line of this number, and what follows. Almost all words are short numbers with one blank between them,
-/// which `push_short_ids` reads at once; the loop is for each other word (more digits, more blanks, faults), and for a 0 behind one.
+/// Reads the numbers up to the first 0 of the line of this number into the list, and gives what follows. Almost all words are short numbers with
+/// one blank between them, which `push_short` reads at once; the loop is for each other word (more digits, more blanks, faults, a hint with a
+/// minus), and for a 0 behind one.
+fn read_list<'x, N: ListedNumber>(
+    numbers: &mut Vec<N>,
+    line: &'x [u8],
+    place: usize,
+) -> Result<&'x [u8], LratFault>
+    ensures { MatchResult result
+        (λ behind. BeginsWithList N.fault N.passes (words_of line.now) (map N.number numbers.new.items) (words_of behind.now))
+        (λ fault. IsRefusalAt (λ cause. HasListFault N.fault (words_of line.now) cause) place fault) }
+{
+    N::recall_right();
+    numbers.clear();
+    let mut rest = N::push_short(numbers, line)?;
+    if let Some(behind) = behind_zero(rest) {
+        return Ok(behind);
+    }
+    while let Some((word, after)) = cut_word(rest) {
+        match N::read(word) {
+            Ok(Some(number)) => numbers.push(number)?,
+            Ok(None) => return Ok(after),
+            Err(cause) => return Err(LratFault::At(cause, place)),
+        }
+        rest = N::push_short(numbers, after)?;
+    }
+    Err(LratFault::At(LratCause::Unended, place))
+}
+
+/// The ids up to the first 0 of the line of this number, and what follows.
 fn read_ids<'x>(
     alloc: Global,
     ids: &mut Vec<u64>,
@@ -44,27 +73,11 @@ fn read_ids<'x>(
         (λ read. BeginsWithList id_fault is_id_number (words_of line.now) (map pos read.0) (words_of read.1.now))
         (λ fault. IsRefusalAt (λ cause. HasListFault id_fault (words_of line.now) cause) number fault) }
 {
-    ids.clear();
-    let mut rest = push_short_ids(ids, line)?;
-    if let Some(behind) = behind_zero(rest) {
-        return Ok((Ids::from_slice(alloc, ids.as_slice())?, behind));
-    }
-    while let Some((word, after)) = cut_word(rest) {
-        let id = match read_id(word) {
-            Ok(id) => id,
-            Err(cause) => return Err(LratFault::At(cause, number)),
-        };
-        if id == 0 {
-            return Ok((Ids::from_slice(alloc, ids.as_slice())?, after));
-        }
-        ids.push(id)?;
-        rest = push_short_ids(ids, after)?;
-    }
-    Err(LratFault::At(LratCause::Unended, number))
+    let behind = read_list(ids, line, number)?;
+    Ok((Ids::from_slice(alloc, ids.as_slice())?, behind))
 }
 
-/// The hints up to the first 0 of the line of this number, and what follows. They are read as `read_ids` reads ids; a hint with a minus
-/// goes through the loop.
+/// The hints up to the first 0 of the line of this number, and what follows.
 fn read_hints<'x>(
     alloc: Global,
     hints: &mut Vec<i64>,
@@ -75,23 +88,11 @@ fn read_hints<'x>(
         (λ read. BeginsWithList hint_fault is_id_number (words_of line.now) read.0 (words_of read.1.now))
         (λ fault. IsRefusalAt (λ cause. HasListFault hint_fault (words_of line.now) cause) number fault) }
 {
-    hints.clear();
-    let mut rest = push_short_hints(hints, line)?;
-    if let Some(behind) = behind_zero(rest) {
-        return Ok((Hints::compact(alloc, hints.as_slice())?, behind));
-    }
-    while let Some((word, after)) = cut_word(rest) {
-        match read_hint(word) {
-            Ok(Some(hint)) => hints.push(hint)?,
-            Ok(None) => return Ok((Hints::compact(alloc, hints.as_slice())?, after)),
-            Err(cause) => return Err(LratFault::At(cause, number)),
-        }
-        rest = push_short_hints(hints, after)?;
-    }
-    Err(LratFault::At(LratCause::Unended, number))
+    let behind = read_list(hints, line, number)?;
+    Ok((Hints::compact(alloc, hints.as_slice())?, behind))
 }
 
-/// The literals up to the first 0 of the line of this number, and what follows. They are read as `read_ids` reads ids.
+/// The literals up to the first 0 of the line of this number, and what follows.
 fn read_literals<'x>(
     alloc: Global,
     literals: &mut Vec<Lit>,
@@ -102,20 +103,8 @@ fn read_literals<'x>(
         (λ read. BeginsWithList literal_fault is_literal (words_of line.now) read.0 (words_of read.1.now))
         (λ fault. IsRefusalAt (λ cause. HasListFault literal_fault (words_of line.now) cause) number fault) }
 {
-    literals.clear();
-    let mut rest = push_short_literals(literals, line)?;
-    if let Some(behind) = behind_zero(rest) {
-        return Ok((Clause::from_slice(alloc, literals.as_slice())?, behind));
-    }
-    while let Some((word, after)) = cut_word(rest) {
-        match read_literal(word) {
-            Ok(Some(literal)) => literals.push(literal)?,
-            Ok(None) => return Ok((Clause::from_slice(alloc, literals.as_slice())?, after)),
-            Err(cause) => return Err(LratFault::At(cause, number)),
-        }
-        rest = push_short_literals(literals, after)?;
-    }
-    Err(LratFault::At(LratCause::Unended, number))
+    let behind = read_list(literals, line, number)?;
+    Ok((Clause::from_slice(alloc, literals.as_slice())?, behind))
 }
 
 /// Checks that no word follows. A word that is no number is the fault `BadNumber` here too, as everywhere on the line.

@@ -1,16 +1,16 @@
 //! Short numbers at the front of a line, which are cut and read in one pass: 18 digits at most, so that the value fits 64 bits, and
 //! no blank before them. Any other word is left to the readers of words.
 
-ghost use Rattle.std.specs.Prelude.{◌≡◌, ◌≤◌, ◌<◌, ◌+◌, ◌^◌, pos, neg_ℤ, drop, map, slice_index_or, true, if◌then◌else◌, IfOk, IfSome};
-ghost use Rattle.dimacs.specs.Literal.{is_literal, most_variable};
+ghost use Rattle.std.specs.Prelude.{◌≡◌, ◌<◌, ◌+◌, ◌^◌, pos, drop, map, slice_index_or, true, IfOk, IfSome};
+ghost use Rattle.dimacs.specs.Literal.{is_literal};
 ghost use Rattle.lrat_check.specs.LratFaults.{literal_fault, hint_fault, id_fault};
 ghost use Rattle.lrat_check.specs.LratText.{is_id_number};
 ghost use Rattle.lrat_check.specs.ShortNumbers.{AreLeadingDigits, IsFirstNumber, IsShortNumber, ReadsOn};
-ghost use Rattle.text_lines.specs.Numbers.{digits_after_sign, has_minus};
 ghost use Rattle.text_lines.specs.Words.{is_blank};
 
 use dimacs::{Lit, MAX_VARIABLE};
 use std::alloc::AllocError;
+use text_lines::numbers::{begins_with_minus, without_minus};
 use text_lines::words::is_blank_byte;
 
 /// The most digits of a short number: a value below 10^18 fits a `u64`, and an `i64` too, as which hints are kept.
@@ -105,26 +105,6 @@ pub(crate) fn push_short_hints<'x>(
         }
         hints.push(id as i64)?;
         rest = behind(rest, count);
-    }
-}
-
-/// Returns whether a minus stands first.
-#[inline(always)]
-fn begins_with_minus(text: &[u8]) -> bool
-    ensures { result ≡ has_minus text.now }
-{
-    !text.is_empty() && text[0] == b'-'
-}
-
-/// The text without the minus that may stand first.
-#[inline(always)]
-fn without_minus(text: &[u8]) -> &[u8]
-    ensures { result.now ≡ digits_after_sign text.now }
-{
-    if begins_with_minus(text) {
-        &text[1..]
-    } else {
-        text
     }
 }
 

@@ -1,20 +1,19 @@
 -- Lists of numbers, word by word.
-use Rattle.std.proofs.Common.{◌≡◌, ◌≢◌, ℕ, ◌≤◌, ◌<◌, Bool, true, false, cond, List, [], ◌∷◌, ◌++◌, refl, ap, sym, ◌∙◌, append_assoc, arith, SFits, w64}
-use Rattle.std.specs.Prelude.{ℤ, pos, negsuc, suc, nat_abs, Option, Some, None, nat_lt, nat_le}
+use Rattle.std.proofs.Common.{◌≡◌, ◌≢◌, ℕ, ◌≤◌, ◌<◌, Bool, true, false, cond, List, [], ◌∷◌, ◌++◌, refl, ap, sym, ◌∙◌, append_assoc, arith}
+use Rattle.std.specs.Prelude.{ℤ, pos, nat_abs, Option, Some, None, nat_lt, nat_le}
 use Rattle.std.specs.Option.{option_or}
-use Rattle.std.proofs.lemmas.Bool.{and_from, and_parts, cond-true, cond-false, le-leb, leb-true, lt-ltb, ltb-true, ne_eqb}
+use Rattle.std.proofs.lemmas.Bool.{and_from, and_parts, cond-true, cond-false, le-leb, lt-ltb, ltb-true, ne_eqb}
 use Rattle.std.specs.Int.{is_negative}
 use Rattle.std.proofs.lemmas.List.{map_push}
 use Rattle.std.proofs.lemmas.List.Folds.{list_all-append}
 use Rattle.dimacs.specs.Literal.{is_literal, most_variable}
 use Rattle.text_lines.specs.Numbers.{solver_number}
 use Rattle.text_lines.proofs.Decimals.IntegerLemmas.{not_negative}
-use Rattle.lrat_check.specs.ListFault.{HasListFault}
 use Rattle.lrat_check.specs.LratFaults.{list_fault, literal_fault, hint_fault, id_fault, is_zero}
 use Rattle.lrat_check.specs.LratRead.{BeginsWith, BeginsWithList}
 use Rattle.lrat_check.specs.LratText.{is_id, is_id_number, most_id}
 use Rattle.lrat_check.specs.declared.lrat_fault.LratCause.{LratCause}
-use Rattle.lrat_check.specs.declared.lrat_fault.LratCause.TheVariants.{BadNumber, Unended}
+use Rattle.lrat_check.specs.declared.lrat_fault.LratCause.TheVariants.{BadNumber}
 
 pub at_front : (fault : Option ℤ → Option LratCause) (passes : ℤ → Bool) (words : List (List ℕ)) → BeginsWith fault passes words [] words
 at_front fault passes words = record { front = []; parts = refl; says = refl; good = refl; faultless = λ next. refl }
@@ -56,15 +55,6 @@ list_ended fault passes words numbers rest word after h cut e ok = record {
   faultless = λ next. h.faultless next ∙ ap (list_fault fault next) cut ∙ list_end fault next word after e ok;
 }
 
-pub number_fault : (fault : Option ℤ → Option LratCause) (passes : ℤ → Bool) (words : List (List ℕ)) (numbers : List ℤ) (rest : List (List ℕ)) (word : List ℕ) (after : List (List ℕ)) (cause : LratCause) →
-    BeginsWith fault passes words numbers rest → rest ≡ word ∷ after → fault (solver_number word) ≡ Some cause → HasListFault fault words cause
-number_fault fault passes words numbers rest word after cause h cut e =
-    λ next. h.faultless next ∙ ap (list_fault fault next) cut ∙ ap (λ o. option_or o (cond (is_zero (solver_number word)) (next after) (list_fault fault next after))) e
-
-pub list_unended : (fault : Option ℤ → Option LratCause) (passes : ℤ → Bool) (words : List (List ℕ)) (numbers : List ℤ) (rest : List (List ℕ)) →
-    BeginsWith fault passes words numbers rest → rest ≡ [] → HasListFault fault words Unended
-list_unended fault passes words numbers rest h none = λ next. h.faultless next ∙ ap (list_fault fault next) none
-
 -- an id or 0 is right
 pub id_right : (n : ℕ) → n ≤ most_id → id_fault (Some (pos n)) ≡ None
 id_right n h = cond-false (is_negative (pos n)) (Some BadNumber) (cond (nat_le n most_id) None (Some BadNumber)) (not_negative n) ∙ cond-true (nat_le n most_id) None (Some BadNumber) (le-leb n most_id h)
@@ -78,11 +68,6 @@ is_an_id n h k = and_from _ _ (lt-ltb 0 n (omega (arith, h))) (le-leb n most_id 
 -- a hint or 0 is right
 pub hint_right : (z : ℤ) → is_id_number z ≡ true → hint_fault (Some z) ≡ None
 hint_right z h = cond-true (nat_le (nat_abs z) most_id) None (Some BadNumber) (and_parts (nat_lt 0 (nat_abs z)) (nat_le (nat_abs z) most_id) h).1
-
--- a hint fits its type
-pub hint_fits : (z : ℤ) → is_id_number z ≡ true → SFits w64 z
-hint_fits (pos n) h = (let low : n ≤ most_id = leb-true n most_id (and_parts (nat_lt 0 n) (nat_le n most_id) h).1 in record { sfits = omega (arith, low) })
-hint_fits (negsuc n) h = (let low : suc n ≤ most_id = leb-true (suc n) most_id (and_parts (nat_lt 0 (suc n)) (nat_le (suc n) most_id) h).1 in record { sfits = omega (arith, low) })
 
 pub hint_not_zero : (z : ℤ) → is_id_number z ≡ true → is_zero (Some z) ≡ false
 hint_not_zero z h = (let more : 0 < nat_abs z = ltb-true 0 (nat_abs z) (and_parts (nat_lt 0 (nat_abs z)) (nat_le (nat_abs z) most_id) h).0 in ne_eqb (nat_abs z) 0 (λ e. omega (arith, more, e)))
