@@ -162,6 +162,26 @@ impl CountRow {
         Ok(())
     }
 
+    /// The clauses from which that of a literal at the border follows: a clause of a definition, and what is known of the source from this reader and
+    /// from the row before, whose clauses are `one_fewer` at the first of the counts and `without_last` at the second.
+    fn border_hints(
+        &self,
+        taken: &Taken,
+        before: &CountRow,
+        definition: ShortClause,
+        source: u32,
+        one_fewer_at: u32,
+        without_last_at: u32,
+    ) -> [ShortClause; 5] {
+        [
+            before.one_fewer.get(source, one_fewer_at),
+            definition,
+            self.served_only(source),
+            taken.exclusion(self.reader, source),
+            before.without_last.get(source, without_last_at),
+        ]
+    }
+
     /// Adds the clauses for the literals that are always true: this number of readers have a source up to this one, since the sources after
     /// it have no room for the others. From the last source down, since each clause rests on that of the source behind it at a count one larger.
     pub fn add_full_ends(
@@ -182,13 +202,8 @@ impl CountRow {
                 self.is_served(source),
                 NEVER,
             ];
-            let hints = [
-                before.one_fewer.get(next, more),
-                self.clause(next, more, NEEDS_SOURCE),
-                self.served_only(next),
-                taken.exclusion(self.reader, next),
-                before.without_last.get(next, count),
-            ];
+            let definition = self.clause(next, more, NEEDS_SOURCE);
+            let hints = self.border_hints(taken, before, definition, next, more, count);
             let known = writer.derive(literals, &hints)?;
             self.set_border(source, count, NEEDS_SOURCE, known);
         }
@@ -212,13 +227,8 @@ impl CountRow {
                 self.is_served(source).negated(),
                 NEVER,
             ];
-            let hints = [
-                before.one_fewer.get(source, source),
-                self.clause(previous, source, BY_SOURCE),
-                self.served_only(source),
-                taken.exclusion(self.reader, source),
-                before.without_last.get(source, source),
-            ];
+            let definition = self.clause(previous, source, BY_SOURCE);
+            let hints = self.border_hints(taken, before, definition, source, source, source);
             let known = writer.derive(literals, &hints)?;
             self.set_border(source, source.wrapping_add(1), BY_SOURCE, known);
         }
