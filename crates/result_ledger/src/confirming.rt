@@ -25,10 +25,7 @@ fn said_model(outcome: &Option<Outcome>) -> Option<&Assignment>
 {
     match outcome {
         Some(Outcome::Model(assignment)) => Some(assignment),
-        Some(Outcome::Refuted(_)) => None,
-        Some(Outcome::Open) => None,
-        Some(Outcome::Skipped) => None,
-        None => None,
+        _ => None,
     }
 }
 
@@ -40,10 +37,7 @@ pub(crate) fn said_derivation(outcome: &Option<Outcome>) -> Option<&Derivation>
 {
     match outcome {
         Some(Outcome::Refuted(derivation)) => Some(derivation),
-        Some(Outcome::Model(_)) => None,
-        Some(Outcome::Open) => None,
-        Some(Outcome::Skipped) => None,
-        None => None,
+        _ => None,
     }
 }
 
