@@ -122,7 +122,7 @@ Exit status:
     },
 };
 
-// The argument for the path, which has to be given.
+/// The argument for the path, which has to be given.
 fn argument_of<'a>(alloc: Global, path: PathHelp<'a>) -> Arg<'a>
     ensures rule { rule_of result ≡ required_path path.entry.id.now }
     ensures local { result.global ≡ false }
