@@ -23,28 +23,31 @@ impl Nearness {
     }
 }
 
-/// The names that were found: none, one, or more than one.
+/// What was found of some kind, names or values: none, one, or more than one.
 #[derive(Clone, Copy)]
-enum FoundName<'t> {
+enum Found<T> {
     Nothing,
-    One(&'t [u8]),
+    One(T),
     Several,
 }
 
-impl<'t> FoundName<'t> {
-    /// The same with one more name.
-    fn and(self, name: &'t [u8]) -> FoundName<'t> {
+impl<T: Copy + PartialEq> Found<T> {
+    /// The same with one more.
+    fn and(self, next: T) -> Found<T> {
         match self {
-            FoundName::Nothing => FoundName::One(name),
-            FoundName::One(found) => {
-                if found == name {
-                    self
-                } else {
-                    FoundName::Several
-                }
-            }
-            FoundName::Several => FoundName::Several,
+            Found::Nothing => Found::One(next),
+            Found::One(found) => found_of_two(found, next),
+            Found::Several => Found::Several,
         }
+    }
+}
+
+/// Gives the one that both are, or several if they differ.
+fn found_of_two<T: Copy + PartialEq>(first: T, second: T) -> Found<T> {
+    if first == second {
+        Found::One(first)
+    } else {
+        Found::Several
     }
 }
 
@@ -68,11 +71,11 @@ impl<'w> WantedLocation<'w> {
 
 /// Adds the locations that these operations write and that may be meant.
 fn names_written<'t>(
-    before: FoundName<'t>,
+    before: Found<&'t [u8]>,
     ops: &'t [Op],
     wanted: WantedLocation<'_>,
     nearness: Nearness,
-) -> FoundName<'t> {
+) -> Found<&'t [u8]> {
     let mut found = before;
     for op in ops {
         let name = op.location().as_bytes();
@@ -90,8 +93,8 @@ fn names_near<'t>(
     trace: &'t Trace,
     wanted: WantedLocation<'_>,
     nearness: Nearness,
-) -> FoundName<'t> {
-    let mut found = FoundName::Nothing;
+) -> Found<&'t [u8]> {
+    let mut found = Found::Nothing;
     for entry in trace.initial() {
         let name = entry.0.as_bytes();
         if wanted.is_met(name, entry.1, nearness) {
@@ -107,10 +110,10 @@ fn names_near<'t>(
 /// The one location that may be meant; one that differs by case goes before one that differs by a letter.
 fn one_near<'t>(trace: &'t Trace, wanted: WantedLocation<'_>) -> Option<&'t [u8]> {
     match names_near(trace, wanted, Nearness::ByCase) {
-        FoundName::One(name) => Some(name),
-        FoundName::Several => None,
-        FoundName::Nothing => match names_near(trace, wanted, Nearness::ByLetter) {
-            FoundName::One(name) => Some(name),
+        Found::One(name) => Some(name),
+        Found::Several => None,
+        Found::Nothing => match names_near(trace, wanted, Nearness::ByLetter) {
+            Found::One(name) => Some(name),
             _ => None,
         },
     }
@@ -143,33 +146,8 @@ fn is_near_value(first: u64, second: u64) -> bool {
     differ_by_digit(decimal(first).as_slice(), decimal(second).as_slice())
 }
 
-/// The values that were found: none, one, or more than one.
-#[derive(Clone, Copy)]
-enum FoundValue {
-    Nothing,
-    One(u64),
-    Several,
-}
-
-impl FoundValue {
-    /// The same with one more value.
-    fn and(self, value: u64) -> FoundValue {
-        match self {
-            FoundValue::Nothing => FoundValue::One(value),
-            FoundValue::One(found) => {
-                if found == value {
-                    self
-                } else {
-                    FoundValue::Several
-                }
-            }
-            FoundValue::Several => FoundValue::Several,
-        }
-    }
-}
-
 /// Adds the values near this one that these operations write to the location.
-fn values_written(before: FoundValue, ops: &[Op], location: &[u8], value: u64) -> FoundValue {
+fn values_written(before: Found<u64>, ops: &[Op], location: &[u8], value: u64) -> Found<u64> {
     let mut found = before;
     for op in ops {
         if op.location().as_bytes() == location {
@@ -185,7 +163,7 @@ fn values_written(before: FoundValue, ops: &[Op], location: &[u8], value: u64) -
 
 /// The one value that the location gets and that is probably meant in place of this one.
 pub fn near_value(trace: &Trace, location: &[u8], value: u64) -> Option<u64> {
-    let mut found = FoundValue::Nothing;
+    let mut found = Found::Nothing;
     if let Some(initial) = initial_value(trace, location) {
         if is_near_value(value, initial) {
             found = found.and(initial);
@@ -195,7 +173,7 @@ pub fn near_value(trace: &Trace, location: &[u8], value: u64) -> Option<u64> {
         found = values_written(found, process.operations.as_slice(), location, value);
     }
     match found {
-        FoundValue::One(near) => Some(near),
+        Found::One(near) => Some(near),
         _ => None,
     }
 }
