@@ -1,6 +1,8 @@
 //! Numbers of what a log has, each kind with a type of its own.
 
 ghost use Rattle.std.specs.Iterator.{at_most};
+ghost use Rattle.std.specs.Prelude.{◌-◌};
+use std::ops::Range;
 
 /// The number of an operation in its log, from 0: the operations of one process after those of another, each in program order. As readers the final
 /// values of locations have such numbers too, behind those of all operations.
@@ -41,29 +43,25 @@ pub struct ProcessPlace {
 /// Numbers of operations, rising.
 #[derive(Drop)]
 pub struct OperationIds {
-    next: u32,
-    left: u32,
+    numbers: Range<u32>,
 }
 
 /// Numbers of processes, rising.
 #[derive(Drop)]
 pub struct ProcessIds {
-    next: u32,
-    left: u32,
+    numbers: Range<u32>,
 }
 
 /// Numbers of locations, rising.
 #[derive(Drop)]
 pub struct LocationIds {
-    next: u32,
-    left: u32,
+    numbers: Range<u32>,
 }
 
 /// Places of a process, rising.
 #[derive(Drop)]
 pub struct ProcessPlaces {
-    next: u32,
-    left: u32,
+    numbers: Range<u32>,
 }
 
 /// Places of a process, falling down to the first.
@@ -120,18 +118,14 @@ impl OperationId {
     #[inline(always)]
     pub fn up_to(self, end: OperationId) -> OperationIds {
         OperationIds {
-            next: self.number,
-            left: end.number.saturating_sub(self.number),
+            numbers: self.number..end.number,
         }
     }
 
     /// The first operations, as many as are counted.
     #[inline(always)]
     pub fn first(count: u32) -> OperationIds {
-        OperationIds {
-            next: 0,
-            left: count,
-        }
+        OperationIds { numbers: 0..count }
     }
 }
 
@@ -161,10 +155,7 @@ impl ProcessId {
     /// The first processes, as many as are counted.
     #[inline(always)]
     pub fn first(count: u32) -> ProcessIds {
-        ProcessIds {
-            next: 0,
-            left: count,
-        }
+        ProcessIds { numbers: 0..count }
     }
 }
 
@@ -194,10 +185,7 @@ impl LocationId {
     /// The first locations, as many as are counted.
     #[inline(always)]
     pub fn first(count: u32) -> LocationIds {
-        LocationIds {
-            next: 0,
-            left: count,
-        }
+        LocationIds { numbers: 0..count }
     }
 }
 
@@ -261,8 +249,7 @@ impl ProcessPlace {
     #[inline(always)]
     pub fn up_to(self, end: ProcessPlace) -> ProcessPlaces {
         ProcessPlaces {
-            next: self.number,
-            left: end.number.saturating_sub(self.number),
+            numbers: self.number..end.number,
         }
     }
 }
@@ -270,51 +257,33 @@ impl ProcessPlace {
 impl Iterator for OperationIds {
     type Item = OperationId;
 
-    ghost remaining = { λ s. at_most s.left };
+    ghost remaining = { λ s. at_most (s.numbers.end - s.numbers.start) };
 
     #[inline(always)]
     fn next(&mut self) -> Option<OperationId> {
-        if self.left == 0 {
-            return None;
-        }
-        let number = self.next;
-        self.next = number.wrapping_add(1);
-        self.left -= 1;
-        Some(OperationId { number })
+        self.numbers.next().map(OperationId::new)
     }
 }
 
 impl Iterator for ProcessIds {
     type Item = ProcessId;
 
-    ghost remaining = { λ s. at_most s.left };
+    ghost remaining = { λ s. at_most (s.numbers.end - s.numbers.start) };
 
     #[inline(always)]
     fn next(&mut self) -> Option<ProcessId> {
-        if self.left == 0 {
-            return None;
-        }
-        let number = self.next;
-        self.next = number.wrapping_add(1);
-        self.left -= 1;
-        Some(ProcessId { number })
+        self.numbers.next().map(ProcessId::new)
     }
 }
 
 impl Iterator for LocationIds {
     type Item = LocationId;
 
-    ghost remaining = { λ s. at_most s.left };
+    ghost remaining = { λ s. at_most (s.numbers.end - s.numbers.start) };
 
     #[inline(always)]
     fn next(&mut self) -> Option<LocationId> {
-        if self.left == 0 {
-            return None;
-        }
-        let number = self.next;
-        self.next = number.wrapping_add(1);
-        self.left -= 1;
-        Some(LocationId { number })
+        self.numbers.next().map(LocationId::new)
     }
 }
 
@@ -337,16 +306,10 @@ impl Iterator for PlacesBack {
 impl Iterator for ProcessPlaces {
     type Item = ProcessPlace;
 
-    ghost remaining = { λ s. at_most s.left };
+    ghost remaining = { λ s. at_most (s.numbers.end - s.numbers.start) };
 
     #[inline(always)]
     fn next(&mut self) -> Option<ProcessPlace> {
-        if self.left == 0 {
-            return None;
-        }
-        let number = self.next;
-        self.next = number.wrapping_add(1);
-        self.left -= 1;
-        Some(ProcessPlace { number })
+        self.numbers.next().map(ProcessPlace::new)
     }
 }
