@@ -1,7 +1,7 @@
 //! Operations of a trace by their names in a certificate.
 
-ghost use Rattle.std.specs.Prelude.{◌≡◌, ◌<◌, ◌≤◌, true, false, Some, None, length, position, is_some, slice_index_or, MatchOption, IfOk, IfErr, IfSome};
-ghost use Rattle.std.specs.List.{before_first, after_first, list_any};
+ghost use Rattle.std.specs.Prelude.{◌≡◌, ◌<◌, ◌≤◌, true, Some, None, length, is_some, slice_index_or, MatchOption, IfOk, IfErr, IfSome};
+ghost use Rattle.std.specs.List.{before_first, after_first};
 ghost use Rattle.std.specs.Str.{bytes_eq};
 ghost use Rattle.text_lines.specs.declared.plain_fault.PlainFault.TheVariants.{For};
 ghost use Rattle.trace_semantics.specs.ScheduleLimits.{limits_for};
@@ -14,7 +14,7 @@ ghost use Rattle.reason_text.specs.OperationNumbers.{AreNumbered, HoldsTrace, Is
 ghost use Rattle.reason_text.specs.OperationWord.{operation_word};
 
 use reason_clauses::cause::{ReasonCause, ReasonRefusal};
-use schedule_text::schedule_reader::read_place_within;
+use schedule_text::schedule_reader::{cut_at_dot, read_place_within};
 use std::alloc::{AllocError, Global};
 use trace_semantics::limits::Limits;
 use trace_semantics::name::is_name_word;
@@ -31,22 +31,6 @@ pub struct OperationTable<'a> {
     limits: Limits,
     /// For each process its number, counted from 0. Its name in the trace is compared again before the number is relied on.
     numbers: NameTable<'a>,
-}
-
-/// The place of the first dot.
-fn find_dot(word: &[u8]) -> Option<usize>
-    ensures { result ≡ position is_dot word.now }
-{
-    word.iter().position(|byte| *byte == b'.')
-}
-
-/// The bytes before the first dot, and those after it.
-fn cut_at_dot(word: &[u8]) -> Option<(&[u8], &[u8])>
-    ensures { MatchOption result (list_any is_dot word.now ≡ false)
-        (λ cut. (list_any is_dot word.now ≡ true) × (cut.0.now ≡ before_first is_dot word.now) × (cut.1.now ≡ after_first is_dot word.now)) }
-{
-    let dot = find_dot(word)?;
-    Some((&word[..dot], &word[dot + 1..]))
 }
 
 /// The process and the place of the name that the word spells: the process up to the first dot, and the place after it, counted from 1.

@@ -18,6 +18,7 @@ use trace_semantics::operation::OpName;
 use trace_semantics::place::read_place;
 use trace_semantics::schedule::Schedule;
 
+/// The place of the first dot.
 fn find_dot(word: &[u8]) -> Option<usize>
     ensures { result ≡ position is_dot word.now }
 {
@@ -25,7 +26,7 @@ fn find_dot(word: &[u8]) -> Option<usize>
 }
 
 /// Gives what stands before the first dot, and what stands after it.
-fn cut_at_dot(word: &[u8]) -> Option<(&[u8], &[u8])>
+pub fn cut_at_dot(word: &[u8]) -> Option<(&[u8], &[u8])>
     ensures { MatchOption result (list_any is_dot word.now ≡ false)
         (λ cut. (list_any is_dot word.now ≡ true) × (cut.0.now ≡ before_first is_dot word.now) × (cut.1.now ≡ after_first is_dot word.now)) }
 {
