@@ -95,8 +95,7 @@ impl HidingAccesses {
 
     /// Links the plain reads of one process and location to the accesses beside them.
     fn link(&mut self, pair: u32) {
-        let begin = at(self.begins.as_slice(), pair, 0);
-        let end = at(self.begins.as_slice(), pair.wrapping_add(1), 0);
+        let (begin, end) = self.entries(pair);
         for entry in begin..end {
             let mut other = at(self.places.as_slice(), entry, ProcessPlace::START);
             if self.value(entry).is_some() {
@@ -136,6 +135,26 @@ impl HidingAccesses {
         at(self.values.as_slice(), entry, None)
     }
 
+    /// The first entry of the process and location of this number, and the one behind their last.
+    #[inline(always)]
+    fn entries(&self, pair: u32) -> (u32, u32) {
+        let begins = self.begins.as_slice();
+        (at(begins, pair, 0), at(begins, pair.wrapping_add(1), 0))
+    }
+
+    /// The entry of the process's first access of the location from this place on, if there is one.
+    #[inline(always)]
+    fn next_entry(
+        &self,
+        process: ProcessId,
+        location: LocationId,
+        place: ProcessPlace,
+    ) -> Option<u32> {
+        let (begin, end) = self.entries(self.pair_of(process, location));
+        let entry = self.first_from(begin, end, place);
+        if entry < end { Some(entry) } else { None }
+    }
+
     /// The first entry, from one up to another, that has this place or a later one, or the end.
     #[inline(always)]
     fn first_from(&self, begin: u32, end: u32, place: ProcessPlace) -> u32 {
@@ -153,9 +172,7 @@ impl HidingAccesses {
         value: u64,
         place: ProcessPlace,
     ) -> ProcessPlace {
-        let pair = self.pair_of(process, location);
-        let begin = at(self.begins.as_slice(), pair, 0);
-        let end = at(self.begins.as_slice(), pair.wrapping_add(1), 0);
+        let (begin, end) = self.entries(self.pair_of(process, location));
         let behind = self.first_from(begin, end, place.ahead(1));
         if behind <= begin {
             return ProcessPlace::START;
@@ -177,13 +194,9 @@ impl HidingAccesses {
         value: u64,
         place: ProcessPlace,
     ) -> ProcessPlace {
-        let pair = self.pair_of(process, location);
-        let begin = at(self.begins.as_slice(), pair, 0);
-        let end = at(self.begins.as_slice(), pair.wrapping_add(1), 0);
-        let entry = self.first_from(begin, end, place);
-        if entry >= end {
+        let Some(entry) = self.next_entry(process, location, place) else {
             return ProcessPlace::FAR;
-        }
+        };
         if self.value(entry) == Some(value) {
             at(self.others_behind.as_slice(), entry, ProcessPlace::FAR)
         } else {
@@ -199,13 +212,9 @@ impl HidingAccesses {
         location: LocationId,
         place: ProcessPlace,
     ) -> ProcessPlace {
-        let pair = self.pair_of(process, location);
-        let begin = at(self.begins.as_slice(), pair, 0);
-        let end = at(self.begins.as_slice(), pair.wrapping_add(1), 0);
-        let entry = self.first_from(begin, end, place);
-        if entry >= end {
-            return ProcessPlace::FAR;
+        match self.next_entry(process, location, place) {
+            Some(entry) => at(self.places.as_slice(), entry, ProcessPlace::FAR),
+            None => ProcessPlace::FAR,
         }
-        at(self.places.as_slice(), entry, ProcessPlace::FAR)
     }
 }
