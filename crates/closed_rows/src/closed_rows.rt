@@ -1,6 +1,6 @@
 //! Rows of places.
 
-use numbered_log::{NumberedLog, OperationId, ProcessId, ProcessIds, ProcessPlace};
+use numbered_log::{NumberedLog, Operation, OperationId, ProcessId, ProcessIds, ProcessPlace};
 use std::alloc::{AllocError, Global};
 use total_tables::{at, put, size};
 
@@ -218,19 +218,25 @@ impl ClosedRows {
         at(self.ceilings.as_slice(), number, NO_BOUND)
     }
 
+    /// Keeps what an entry was, if changes are kept.
+    #[inline(always)]
+    fn keep_change(&mut self, change: RowChange) -> Result<(), AllocError> {
+        if self.keeps_changes {
+            self.changes.push(change)?;
+        }
+        Ok(())
+    }
+
     /// Sets an entry of what stands before, and keeps what it was if changes are kept.
     #[inline(always)]
     pub fn raise(&mut self, number: OperationId, bound: RowEntry) -> Result<(), AllocError> {
         let index = self.index(number, bound.process);
-        if self.keeps_changes {
-            let old = at(self.before.as_slice(), index, ProcessPlace::START);
-            let is_after = false;
-            self.changes.push(RowChange {
-                index,
-                old,
-                is_after,
-            })?;
-        }
+        let old = at(self.before.as_slice(), index, ProcessPlace::START);
+        self.keep_change(RowChange {
+            index,
+            old,
+            is_after: false,
+        })?;
         put(self.before.as_mut_slice(), index, bound.place);
         Ok(())
     }
@@ -239,17 +245,44 @@ impl ClosedRows {
     #[inline(always)]
     pub fn lower(&mut self, number: OperationId, bound: RowEntry) -> Result<(), AllocError> {
         let index = self.index(number, bound.process);
-        if self.keeps_changes {
-            let old = at(self.after.as_slice(), index, ProcessPlace::START);
-            let is_after = true;
-            self.changes.push(RowChange {
-                index,
-                old,
-                is_after,
-            })?;
-        }
+        let old = at(self.after.as_slice(), index, ProcessPlace::START);
+        self.keep_change(RowChange {
+            index,
+            old,
+            is_after: true,
+        })?;
         put(self.after.as_mut_slice(), index, bound.place);
         Ok(())
+    }
+
+    /// The place of the process's last operation that stands before this one or is it, or `START`. The operation is given by its number, too.
+    #[inline(always)]
+    pub fn last_up_to(
+        &self,
+        number: OperationId,
+        operation: Operation,
+        process: ProcessId,
+    ) -> ProcessPlace {
+        if process == operation.process {
+            operation.place
+        } else {
+            self.before(number, process)
+        }
+    }
+
+    /// The place of the process's first operation that stands after this one or is it.
+    #[inline(always)]
+    pub fn first_from(
+        &self,
+        number: OperationId,
+        operation: Operation,
+        process: ProcessId,
+    ) -> ProcessPlace {
+        if process == operation.process {
+            operation.place
+        } else {
+            self.after(number, process)
+        }
     }
 
     /// Sets the row of what stands before the operation to that of the one before it in its process, which must have been made already.
@@ -271,10 +304,7 @@ impl ClosedRows {
     pub fn raise_to(&mut self, log: &NumberedLog, number: OperationId, earlier: OperationId) {
         let other = log.operation(earlier);
         for process in self.process_ids() {
-            let mut place = self.before(earlier, process);
-            if process == other.process {
-                place = other.place;
-            }
+            let place = self.last_up_to(earlier, other, process);
             let index = self.index(number, process);
             if at(self.before.as_slice(), index, ProcessPlace::START) < place {
                 put(self.before.as_mut_slice(), index, place);
@@ -302,10 +332,7 @@ impl ClosedRows {
     pub fn lower_to(&mut self, log: &NumberedLog, number: OperationId, later: OperationId) {
         let other = log.operation(later);
         for process in self.process_ids() {
-            let mut place = self.after(later, process);
-            if process == other.process {
-                place = other.place;
-            }
+            let place = self.first_from(later, other, process);
             let index = self.index(number, process);
             if at(self.after.as_slice(), index, ProcessPlace::START) > place {
                 put(self.after.as_mut_slice(), index, place);

@@ -6,8 +6,10 @@
 
 mod closed_rows;
 mod ordered_pairs;
+mod pairs_by_second;
 mod sweeping;
 
 pub use closed_rows::{ClosedRows, RowEntry};
 pub use ordered_pairs::{NO_PAIR, OrderedPair, OrderedPairs, PairReason};
+pub use pairs_by_second::PairsBySecond;
 pub use sweeping::{Sweeps, close_rows};

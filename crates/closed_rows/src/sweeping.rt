@@ -2,7 +2,8 @@
 
 use crate::closed_rows::ClosedRows;
 use crate::ordered_pairs::OrderedPairs;
-use numbered_log::{NO_NUMBER, NOBODY, NumberedLog, OperationId, ProcessId, ProcessPlace};
+use crate::pairs_by_second::PairsBySecond;
+use numbered_log::{Fronts, NO_NUMBER, NOBODY, NumberedLog, OperationId, ProcessId};
 use std::alloc::{AllocError, Global};
 use total_tables::{at, put, size};
 
@@ -17,12 +18,8 @@ pub enum Sweeps {
 
 /// A sweep over the operations in an order in which each comes behind all that stand before it.
 struct Sweep {
-    /// For each operation the last pair of which it is the second, or `NO_NUMBER`.
-    heads: Vec<u32>,
-    /// For each pair the one before it with the same second operation.
-    next: Vec<u32>,
-    /// For each process the place of its next operation.
-    fronts: Vec<ProcessPlace>,
+    by_second: PairsBySecond,
+    fronts: Fronts,
     /// For each process the operation that its next one waits for, or `NOBODY`: one look says whether it still has to wait.
     awaited: Vec<OperationId>,
     /// The operations that were passed.
@@ -33,8 +30,7 @@ struct Sweep {
 impl Drop for Sweep {
     fn drop(self) {
         let Sweep {
-            heads: _heads,
-            next: _next,
+            by_second: _by_second,
             fronts: _fronts,
             awaited: _awaited,
             passed: _passed,
@@ -44,52 +40,26 @@ impl Drop for Sweep {
 
 impl Sweep {
     fn new(alloc: Global, log: &NumberedLog, pairs: &OrderedPairs) -> Result<Sweep, AllocError> {
-        let processes = log.processes() as usize;
-        let mut sweep = Sweep {
-            heads: vec![in alloc; NO_NUMBER; log.count() as usize]?,
-            next: vec![in alloc; NO_NUMBER; pairs.count() as usize]?,
-            fronts: vec![in alloc; ProcessPlace::FIRST; processes]?,
-            awaited: vec![in alloc; NOBODY; processes]?,
+        Ok(Sweep {
+            by_second: PairsBySecond::new(alloc, log.count(), pairs)?,
+            fronts: Fronts::new(alloc, log.processes())?,
+            awaited: vec![in alloc; NOBODY; log.processes() as usize]?,
             passed: Vec::with_capacity(alloc, log.count() as usize)?,
-        };
-        for number in 0..pairs.count() {
-            let second = pairs.pair(number).second;
-            let head = at(sweep.heads.as_slice(), second.number(), NO_NUMBER);
-            put(sweep.next.as_mut_slice(), number, head);
-            put(sweep.heads.as_mut_slice(), second.number(), number);
-        }
-        Ok(sweep)
-    }
-
-    /// The place of the process's next operation.
-    #[inline(always)]
-    fn front(&self, process: ProcessId) -> ProcessPlace {
-        at(
-            self.fronts.as_slice(),
-            process.number(),
-            ProcessPlace::START,
-        )
-    }
-
-    /// Returns whether the operation was passed. Those of a process are passed in their order, so its front says that.
-    #[inline(always)]
-    fn has_passed(&self, log: &NumberedLog, number: OperationId) -> bool {
-        let operation = log.operation(number);
-        self.front(operation.process) > operation.place
+        })
     }
 
     /// An operation that stands before this one by a pair and was not passed yet, or `NOBODY`.
     fn missing(&self, log: &NumberedLog, pairs: &OrderedPairs, number: OperationId) -> OperationId {
-        let mut pair = at(self.heads.as_slice(), number.number(), NO_NUMBER);
+        let mut pair = self.by_second.last_of(number);
         for _ in 0..pairs.count() {
             if pair == NO_NUMBER {
                 break;
             }
             let first = pairs.pair(pair).first;
-            if !self.has_passed(log, first) {
+            if !self.fronts.has_passed(log.operation(first)) {
                 return first;
             }
-            pair = at(self.next.as_slice(), pair, NO_NUMBER);
+            pair = self.by_second.previous(pair);
         }
         NOBODY
     }
@@ -103,13 +73,13 @@ impl Sweep {
         number: OperationId,
     ) {
         rows.begin_before(log, number);
-        let mut pair = at(self.heads.as_slice(), number.number(), NO_NUMBER);
+        let mut pair = self.by_second.last_of(number);
         for _ in 0..pairs.count() {
             if pair == NO_NUMBER {
                 break;
             }
             rows.raise_to(log, number, pairs.pair(pair).first);
-            pair = at(self.next.as_slice(), pair, NO_NUMBER);
+            pair = self.by_second.previous(pair);
         }
     }
 
@@ -122,10 +92,10 @@ impl Sweep {
         process: ProcessId,
     ) -> Result<bool, AllocError> {
         let awaited = at(self.awaited.as_slice(), process.number(), NOBODY);
-        if awaited != NOBODY && !self.has_passed(log, awaited) {
+        if awaited != NOBODY && !self.fronts.has_passed(log.operation(awaited)) {
             return Ok(false);
         }
-        let begin = self.front(process);
+        let begin = self.fronts.of(process);
         let mut passes = false;
         for place in begin.up_to(log.end(process)) {
             let number = log.number(process, place);
@@ -136,7 +106,7 @@ impl Sweep {
             }
             self.make_row(log, pairs, rows, number);
             self.passed.push(number)?;
-            put(self.fronts.as_mut_slice(), process.number(), place.next());
+            self.fronts.set(process, place.next());
             passes = true;
         }
         Ok(passes)

@@ -5,10 +5,12 @@
 #![tactic(auto)]
 
 mod budget;
+mod fronts;
 mod numbered_log;
 mod numbers;
 
 pub use budget::Budget;
+pub use fronts::Fronts;
 pub use numbered_log::{NumberedLog, NumberedOrigin, NumberedPair, Operation};
 pub use numbers::{
     LocationId, LocationIds, NO_NUMBER, NOBODY, OperationId, OperationIds, PlacesBack, ProcessId,

@@ -2,6 +2,7 @@
 
 ghost use Rattle.std.specs.Iterator.{at_most};
 ghost use Rattle.std.specs.Prelude.{◌-◌};
+
 use std::ops::Range;
 
 /// The number of an operation in its log, from 0: the operations of one process after those of another, each in program order. As readers the final
