@@ -73,14 +73,8 @@ impl<'a> Propagation<'a> {
         let earlier = self.log.operation(first);
         let later = self.log.operation(second);
         for process in ProcessId::first(self.rows.width()) {
-            let mut last = self.rows.before(first, process);
-            if process == earlier.process {
-                last = earlier.place;
-            }
-            let mut next = self.rows.after(second, process);
-            if process == later.process {
-                next = later.place;
-            }
+            let last = self.rows.last_up_to(first, earlier, process);
+            let next = self.rows.first_from(second, later, process);
             if last != ProcessPlace::START && next <= last {
                 return true;
             }

@@ -5,15 +5,14 @@
 
 use crate::propagation::Propagation;
 use closed_rows::RowEntry;
-use numbered_log::{Operation, OperationId, ProcessId, ProcessPlace};
+use numbered_log::{Fronts, Operation, OperationId, ProcessId, ProcessPlace};
 use std::alloc::{AllocError, Global};
-use total_tables::{at, put};
 
-/// For each process the place of its next operation, and how far from it readers are looked at while decisions stand. What lies far ahead
+/// The next operation of each process, and how far from it readers are looked at while decisions stand. What lies far ahead
 /// says little of what comes next, and most decisions are taken back before it does.
 #[derive(Drop)]
 pub(crate) struct Reach {
-    fronts: Vec<ProcessPlace>,
+    fronts: Fronts,
     /// A number of places; 0 if all are in reach.
     width: u32,
 }
@@ -22,25 +21,15 @@ impl Reach {
     /// All is in reach, of this number of processes.
     pub(crate) fn new(alloc: Global, processes: u32) -> Result<Reach, AllocError> {
         Ok(Reach {
-            fronts: vec![in alloc; ProcessPlace::FIRST; processes as usize]?,
+            fronts: Fronts::new(alloc, processes)?,
             width: 0,
         })
-    }
-
-    /// The process's next place.
-    #[inline(always)]
-    fn front(&self, process: ProcessId) -> ProcessPlace {
-        at(
-            self.fronts.as_slice(),
-            process.number(),
-            ProcessPlace::START,
-        )
     }
 
     /// The process's last place in reach.
     #[inline(always)]
     fn last(&self, process: ProcessId) -> ProcessPlace {
-        self.front(process).ahead(self.width)
+        self.fronts.of(process).ahead(self.width)
     }
 
     /// Returns whether the operation lies behind the last place in reach.
@@ -52,7 +41,7 @@ impl Reach {
     /// Returns whether the operation lies further before its front than the reach is wide.
     #[inline(always)]
     fn is_behind(&self, operation: Operation) -> bool {
-        operation.place.ahead(self.width) < self.front(operation.process)
+        operation.place.ahead(self.width) < self.fronts.of(operation.process)
     }
 }
 
@@ -62,17 +51,13 @@ impl<'a> Propagation<'a> {
     pub fn set_reach(&mut self, width: u32) {
         self.reach.width = width;
         for process in self.log.process_ids() {
-            put(
-                self.reach.fronts.as_mut_slice(),
-                process.number(),
-                ProcessPlace::FIRST,
-            );
+            self.reach.fronts.set(process, ProcessPlace::FIRST);
         }
     }
 
     /// Sets the place of the process's next operation.
     pub fn set_front(&mut self, process: ProcessId, place: ProcessPlace) {
-        put(self.reach.fronts.as_mut_slice(), process.number(), place);
+        self.reach.fronts.set(process, place);
     }
 
     /// Sets the place of the process's next operation, one further on. What comes into reach is looked at.
@@ -145,7 +130,7 @@ impl<'a> Propagation<'a> {
         let (begin, end) = positions;
         let mut position = begin;
         for process in self.log.process_ids() {
-            let first = self.log.number(process, self.reach.front(process));
+            let first = self.log.number(process, self.reach.fronts.of(process));
             let last = self
                 .log
                 .number(process, self.end_of_reach(process, ProcessPlace::START));
@@ -167,7 +152,7 @@ impl<'a> Propagation<'a> {
     /// `forget_waiting` and `set_front` leave readers without a look; and for the next operations alone, if none of them can come.
     pub fn wake_from_fronts(&mut self, places: u32) {
         for process in self.log.process_ids() {
-            let front = self.reach.front(process);
+            let front = self.reach.fronts.of(process);
             let end = self.log.end(process);
             for place in front.up_to(end.earlier(front.ahead(places))) {
                 let number = self.log.number(process, place);

@@ -75,10 +75,7 @@ impl<'a> Propagation<'a> {
         let operation = self.log.operation(reader);
         let writer = self.log.operation(source);
         for process in ProcessId::first(self.rows.width()) {
-            let mut known = self.rows.before(source, process);
-            if process == writer.process {
-                known = writer.place;
-            }
+            let known = self.rows.last_up_to(source, writer, process);
             let place = self.rows.before(reader, process);
             if place > known {
                 let found = self
