@@ -2,27 +2,23 @@
 //!
 //! Past the end of a table `at` reads as its last argument, and `put` does nothing; so arithmetic may wrap, and a wrong place makes no fault.
 
-use numbered_log::{NO_NUMBER, ProcessId, ProcessPlace};
+use closed_rows::PairsBySecond;
+use numbered_log::{Fronts, NO_NUMBER, ProcessId};
 use order_propagation::Propagation;
 use std::alloc::{AllocError, Global};
 use total_tables::{at, put, size};
 
 /// The operations that stand behind no cycle: those before the next one of each process.
 struct PassedFronts {
-    /// For each operation the last pair of which it is the second, or `NO_NUMBER`.
-    heads: Vec<u32>,
-    /// For each pair the one before it with the same second operation.
-    next: Vec<u32>,
-    /// For each process the place of its next operation.
-    fronts: Vec<ProcessPlace>,
+    by_second: PairsBySecond,
+    fronts: Fronts,
 }
 
 /// Drops each table in one call. A derived `Drop` would drop each at every exit of a function that owns them, which makes its proof longer.
 impl Drop for PassedFronts {
     fn drop(self) {
         let PassedFronts {
-            heads: _heads,
-            next: _next,
+            by_second: _by_second,
             fronts: _fronts,
         } = self;
     }
@@ -38,60 +34,43 @@ pub fn pairs_of_cycle(alloc: Global, order: &Propagation<'_>) -> Result<Vec<u32>
 
 impl PassedFronts {
     fn new(alloc: Global, order: &Propagation<'_>) -> Result<PassedFronts, AllocError> {
-        let pairs = order.pairs().count();
-        let mut fronts = PassedFronts {
-            heads: vec![in alloc; NO_NUMBER; order.log().count() as usize]?,
-            next: vec![in alloc; NO_NUMBER; pairs as usize]?,
-            fronts: vec![in alloc; ProcessPlace::FIRST; order.log().processes() as usize]?,
-        };
-        for number in 0..pairs {
-            let second = order.pairs().pair(number).second;
-            let head = at(fronts.heads.as_slice(), second.number(), NO_NUMBER);
-            put(fronts.next.as_mut_slice(), number, head);
-            put(fronts.heads.as_mut_slice(), second.number(), number);
-        }
-        Ok(fronts)
-    }
-
-    /// The place of the process's next operation.
-    fn front(&self, process: ProcessId) -> ProcessPlace {
-        at(self.fronts.as_slice(), process.number(), ProcessPlace::FAR)
+        let log = order.log();
+        Ok(PassedFronts {
+            by_second: PairsBySecond::new(alloc, log.count(), order.pairs())?,
+            fronts: Fronts::new(alloc, log.processes())?,
+        })
     }
 
     /// A pair that the next operation of the process waits for, as its first operation was not passed, or `NO_NUMBER`.
     fn awaited(&self, order: &Propagation<'_>, process: ProcessId) -> u32 {
         let log = order.log();
-        let front = self.front(process);
+        let front = self.fronts.of(process);
         if front > log.last_place(process) {
             return NO_NUMBER;
         }
-        let mut pair = at(
-            self.heads.as_slice(),
-            log.number(process, front).number(),
-            NO_NUMBER,
-        );
+        let mut pair = self.by_second.last_of(log.number(process, front));
         for _ in 0..order.pairs().count() {
             if pair == NO_NUMBER {
                 break;
             }
             let first = log.operation(order.pairs().pair(pair).first);
-            if self.front(first.process) <= first.place {
+            if !self.fronts.has_passed(first) {
                 return pair;
             }
-            pair = at(self.next.as_slice(), pair, NO_NUMBER);
+            pair = self.by_second.previous(pair);
         }
         NO_NUMBER
     }
 
     /// Passes operations of the process up to the first that has to wait. Returns whether there were any.
     fn pass(&mut self, order: &Propagation<'_>, process: ProcessId) -> bool {
-        let begin = self.front(process);
+        let begin = self.fronts.of(process);
         let end = order.log().end(process);
         for place in begin.up_to(end) {
             if self.awaited(order, process) != NO_NUMBER {
                 return place > begin;
             }
-            put(self.fronts.as_mut_slice(), process.number(), place.next());
+            self.fronts.set(process, place.next());
         }
         begin < end
     }
