@@ -10,6 +10,7 @@ mod conflict_core;
 mod learned_clauses;
 mod learning;
 mod pair_cycle;
+mod process_chain;
 mod reasons;
 mod way_search;
 
@@ -18,4 +19,5 @@ pub use conflict_core::core_of_conflict;
 pub use learned_clauses::{LearnedClauses, Literal};
 pub use learning::Learning;
 pub use pair_cycle::pairs_of_cycle;
+pub use process_chain::ProcessChain;
 pub use way_search::{WayQuestion, WaySearch};

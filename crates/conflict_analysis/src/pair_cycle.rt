@@ -2,11 +2,12 @@
 //!
 //! Past the end of a table `at` reads as its last argument, and `put` does nothing; so arithmetic may wrap, and a wrong place makes no fault.
 
+use crate::process_chain::ProcessChain;
 use closed_rows::PairsBySecond;
 use numbered_log::{Fronts, NO_NUMBER, ProcessId};
 use order_propagation::Propagation;
 use std::alloc::{AllocError, Global};
-use total_tables::{at, put, size};
+use total_tables::{at, put};
 
 /// The operations that stand behind no cycle: those before the next one of each process.
 struct PassedFronts {
@@ -103,27 +104,17 @@ impl PassedFronts {
     /// processes, and few reasons.
     fn find_cycle(&self, alloc: Global, order: &Propagation<'_>) -> Result<Vec<u32>, AllocError> {
         let processes = order.log().processes();
-        let mut seen = vec![in alloc; NO_NUMBER; processes as usize]?;
-        let mut chain: Vec<u32> = Vec::new(alloc);
+        let mut chain = ProcessChain::new(alloc, processes)?;
         let mut process = self.first_waiting(order);
         for _ in 0..processes {
-            if at(seen.as_slice(), process.number(), 0) != NO_NUMBER {
+            if chain.has(process) {
                 break;
             }
-            put(
-                seen.as_mut_slice(),
-                process.number(),
-                size(chain.as_slice()),
-            );
             let pair = self.awaited(order, process);
-            chain.push(pair)?;
+            chain.add(process, pair)?;
             let first = order.pairs().pair(pair).first;
             process = order.log().operation(first).process;
         }
-        let mut cycle = Vec::new(alloc);
-        for place in at(seen.as_slice(), process.number(), 0)..size(chain.as_slice()) {
-            cycle.push(at(chain.as_slice(), place, NO_NUMBER))?;
-        }
-        Ok(cycle)
+        Vec::from_slice(alloc, chain.ring(process))
     }
 }

@@ -61,22 +61,7 @@ pub struct PlacingWalk {
 /// Drops each table in one call. A derived `Drop` would drop each at every exit of a function that owns a walk, which makes its proof longer.
 impl Drop for PlacingWalk {
     fn drop(self) {
-        let PlacingWalk {
-            memory: _memory,
-            awaited: _awaited,
-            is_changed: _is_changed,
-            estimates: _estimates,
-            deciding: _,
-            learning: _learning,
-            decided_at: _decided_at,
-            heeded: _,
-            is_in_set: _is_in_set,
-            stuck: _,
-            restarts: _,
-            conflicts: _,
-            most_conflicts: _,
-            most_placed: _,
-        } = self;
+        let _learning = self.into_learning();
     }
 }
 

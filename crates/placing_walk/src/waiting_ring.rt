@@ -4,10 +4,11 @@
 
 use crate::placing_walk::PlacingWalk;
 use crate::waiting::Awaited;
-use numbered_log::{LocationId, NO_NUMBER, NOBODY, NumberedLog, OperationId, ProcessId};
+use conflict_analysis::ProcessChain;
+use numbered_log::{LocationId, NOBODY, NumberedLog, OperationId, ProcessId};
 use order_propagation::Propagation;
 use std::alloc::{AllocError, Global};
-use total_tables::{at, put, size};
+use total_tables::at;
 
 /// A process of a chain in which each waits for the next.
 #[derive(Clone, Copy)]
@@ -66,31 +67,17 @@ impl PlacingWalk {
     ) -> Result<WaitingRing, AllocError> {
         let log = order.log();
         let processes = log.processes();
-        let mut seen = vec![in alloc; NO_NUMBER; processes as usize]?;
-        let mut chain: Vec<Link> = Vec::new(alloc);
+        let mut chain = ProcessChain::new(alloc, processes)?;
         let mut process = self.first_waiting(processes);
         for _ in 0..processes {
-            if at(seen.as_slice(), process.number(), 0) != NO_NUMBER {
+            if chain.has(process) {
                 break;
             }
-            put(
-                seen.as_mut_slice(),
-                process.number(),
-                size(chain.as_slice()),
-            );
             let link = self.link_of(order, process);
-            chain.push(link)?;
+            chain.add(process, link)?;
             process = link.next;
         }
-        let mut links = Vec::new(alloc);
-        for number in at(seen.as_slice(), process.number(), 0)..size(chain.as_slice()) {
-            let nothing = Link {
-                waiting: NOBODY,
-                awaited: Awaited::Never,
-                next: ProcessId::NONE,
-            };
-            links.push(at(chain.as_slice(), number, nothing))?;
-        }
+        let links = Vec::from_slice(alloc, chain.ring(process))?;
         order.spend(processes as u64);
         Ok(WaitingRing { links })
     }
