@@ -94,16 +94,13 @@ fn push_clauses_of_final(
     }
 }
 
-/// Appends the clauses of all final values.
-pub(crate) fn push_final_clauses(
-    alloc: Global,
-    layout: &Layout,
-    clauses: &mut Vec<Clause>,
-) -> Result<(), AllocError>
-    ensures { OnOk result (clauses.new.items ≡ clauses.old.items ++ blocks.final_clauses layout.now) }
+/// The clauses of all final values.
+pub(crate) fn clauses_of_finals(alloc: Global, layout: &Layout) -> Result<Vec<Clause>, AllocError>
+    ensures { IfOk result (λ clauses. clauses.items ≡ blocks.final_clauses layout.now) }
 {
+    let mut clauses = Vec::new(alloc);
     for k in 0..layout.final_values() {
-        push_clauses_of_final(alloc, layout, k, clauses)?;
+        push_clauses_of_final(alloc, layout, k, &mut clauses)?;
     }
-    Ok(())
+    Ok(clauses)
 }

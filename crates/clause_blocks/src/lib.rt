@@ -1,7 +1,6 @@
 //! The clauses of a trace's formula, in blocks: program order, transitivity, what is read, final values, before pairs.
 #![tactic(auto)]
 
-mod before_clauses;
 mod final_clauses;
 pub mod formula;
 pub mod laws;
@@ -11,7 +10,6 @@ mod listed_clauses;
 pub mod meaning;
 mod parallel_transitivity;
 pub mod pieces;
-mod program_order;
 mod ranks;
 mod read_clauses;
 pub mod stream_cnf;
@@ -20,4 +18,5 @@ pub mod trace_clauses;
 mod transitivity;
 mod transitivity_lines;
 mod triple_table;
+mod unit_clauses;
 mod void_clauses;

@@ -5,11 +5,10 @@ ghost use Rattle.trace_semantics.specs.Trace.{IsTrace, operation_count};
 ghost use Rattle.clause_blocks.specs.Clauses as list;
 ghost use Rattle.clause_blocks.specs.Pieces.{clauses_in};
 
-use crate::before_clauses::push_before_clauses;
-use crate::final_clauses::push_final_clauses;
-use crate::program_order::push_program_order;
-use crate::read_clauses::push_read_clauses;
+use crate::final_clauses::clauses_of_finals;
+use crate::read_clauses::clauses_of_reads;
 use crate::transitivity::count_transitivity_from;
+use crate::unit_clauses::{clauses_of_before, clauses_of_program_order};
 use dimacs::Clause;
 use reducer::reduced::Reduced;
 use std::alloc::{AllocError, Global};
@@ -63,14 +62,10 @@ impl Pieces {
         ensures { IfOk result (λ pieces. pieces ≡ reduced.now.kept) }
     {
         let layout = Layout::of(alloc, reduced)?;
-        let mut program_order = Vec::new(alloc);
-        push_program_order(alloc, &layout, &mut program_order)?;
-        let mut reads = Vec::new(alloc);
-        push_read_clauses(alloc, &layout, &mut reads)?;
-        let mut final_values = Vec::new(alloc);
-        push_final_clauses(alloc, &layout, &mut final_values)?;
-        let mut before = Vec::new(alloc);
-        push_before_clauses(alloc, &layout, &mut before)?;
+        let program_order = clauses_of_program_order(alloc, &layout)?;
+        let reads = clauses_of_reads(alloc, &layout)?;
+        let final_values = clauses_of_finals(alloc, &layout)?;
+        let before = clauses_of_before(alloc, &layout)?;
         Ok(Pieces {
             layout,
             program_order,

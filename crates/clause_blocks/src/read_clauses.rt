@@ -159,18 +159,15 @@ fn push_clauses_of_read(
     }
 }
 
-/// Appends the clauses of all reading operations.
-pub(crate) fn push_read_clauses(
-    alloc: Global,
-    layout: &Layout,
-    clauses: &mut Vec<Clause>,
-) -> Result<(), AllocError>
-    ensures { OnOk result (clauses.new.items ≡ clauses.old.items ++ blocks.read_clauses layout.now) }
+/// The clauses of all reading operations.
+pub(crate) fn clauses_of_reads(alloc: Global, layout: &Layout) -> Result<Vec<Clause>, AllocError>
+    ensures { IfOk result (λ clauses. clauses.items ≡ blocks.read_clauses layout.now) }
 {
+    let mut clauses = Vec::new(alloc);
     for r in 0..layout.operations() {
         if layout.is_reader(r) {
-            push_clauses_of_read(alloc, layout, r, clauses)?;
+            push_clauses_of_read(alloc, layout, r, &mut clauses)?;
         }
     }
-    Ok(())
+    Ok(clauses)
 }
