@@ -128,13 +128,13 @@ fn only(meaning: ClauseMeaning, place: usize) -> Option<ClauseMeaning>
     if place == 0 { Some(meaning) } else { None }
 }
 
-/// The meaning at this place of the two.
-fn of_two(first: ClauseMeaning, second: ClauseMeaning, place: usize) -> Option<ClauseMeaning>
-    ensures { result ≡ slice_get (first ∷ second ∷ []) place }
+/// Whether the clause at this place of two is the second of them.
+fn is_second_at(place: usize) -> Option<bool>
+    ensures { result ≡ slice_get (false ∷ true ∷ []) place }
 {
     match place {
-        0 => Some(first),
-        1 => Some(second),
+        0 => Some(false),
+        1 => Some(true),
         _ => None,
     }
 }
@@ -143,34 +143,24 @@ fn of_two(first: ClauseMeaning, second: ClauseMeaning, place: usize) -> Option<C
 fn of_no_source(reader: usize, variable: u32, place: usize) -> Option<ClauseMeaning>
     ensures { result ≡ slice_get (ClauseMeaning.NoSource reader variable false ∷ ClauseMeaning.NoSource reader variable true ∷ []) place }
 {
-    let first = ClauseMeaning::NoSource {
+    let is_second = is_second_at(place)?;
+    Some(ClauseMeaning::NoSource {
         reader,
         variable,
-        is_second: false,
-    };
-    let second = ClauseMeaning::NoSource {
-        reader,
-        variable,
-        is_second: true,
-    };
-    of_two(first, second, place)
+        is_second,
+    })
 }
 
 /// The meaning at this place of the two clauses of a final value that nothing leaves.
 fn of_no_last(final_value: usize, variable: u32, place: usize) -> Option<ClauseMeaning>
     ensures { result ≡ slice_get (ClauseMeaning.NoLast final_value variable false ∷ ClauseMeaning.NoLast final_value variable true ∷ []) place }
 {
-    let first = ClauseMeaning::NoLast {
+    let is_second = is_second_at(place)?;
+    Some(ClauseMeaning::NoLast {
         final_value,
         variable,
-        is_second: false,
-    };
-    let second = ClauseMeaning::NoLast {
-        final_value,
-        variable,
-        is_second: true,
-    };
-    of_two(first, second, place)
+        is_second,
+    })
 }
 
 /// The meaning of the clause at this place of the run, counted from 0, or none past its end.
