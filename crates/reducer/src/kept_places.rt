@@ -69,7 +69,7 @@ fn value_behind(op: &Op) -> u64
 
 /// Returns whether the second is a plain read of what its location holds directly after the first, and nothing is said of its
 /// source and of its times.
-fn is_repeat(earlier: &Op, op: &Op) -> bool
+pub fn is_repeat(earlier: &Op, op: &Op) -> bool
     ensures { result ≡ reduction.is_repeat earlier.now op.now }
 {
     match op {

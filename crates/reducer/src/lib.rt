@@ -12,3 +12,5 @@ pub mod laws;
 mod named;
 pub mod reduce_fault;
 pub mod reduced;
+
+pub use kept_places::is_repeat;

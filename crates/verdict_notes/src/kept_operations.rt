@@ -2,6 +2,7 @@
 
 use crate::named_operations::{is_named, origin_of, place_after};
 use crate::shown_places::ShownPlaces;
+use reducer::is_repeat;
 use std::alloc::{AllocError, Global};
 use trace_semantics::operation::{Op, Origin};
 use trace_semantics::trace::{Process, Trace};
@@ -51,30 +52,6 @@ fn is_spoken_of(trace: &Trace, process: &[u8], place: u64) -> bool {
     false
 }
 
-/// Gives what the operation's location holds directly after it.
-fn value_behind(op: &Op) -> Option<u64> {
-    match op.written_value() {
-        Some(value) => Some(value),
-        None => op.value_read(),
-    }
-}
-
-/// Returns whether the second is a plain read of what its location holds directly after the first, of which nothing is said from where or when.
-fn repeats(earlier: &Op, op: &Op) -> bool {
-    match op {
-        Op::Read {
-            location,
-            value,
-            origin: Origin::Any,
-            span: None,
-        } => {
-            earlier.location().as_bytes() == location.as_bytes()
-                && value_behind(earlier) == Some(*value)
-        }
-        _ => false,
-    }
-}
-
 /// Returns whether the reduction leaves out the operation at this place of the process, counted from 0. This is the rule of `reducer`, found
 /// again here for names alone. If the two differed, `open_cubes` would name wrong operations, or none if their number differed.
 fn is_left_out(trace: &Trace, process: &Process, k: usize) -> bool {
@@ -82,7 +59,7 @@ fn is_left_out(trace: &Trace, process: &Process, k: usize) -> bool {
     if k == 0 || k >= ops.len() {
         return false;
     }
-    repeats(&ops[k - 1], &ops[k]) && !is_spoken_of(trace, process.name.as_bytes(), place_after(k))
+    is_repeat(&ops[k - 1], &ops[k]) && !is_spoken_of(trace, process.name.as_bytes(), place_after(k))
 }
 
 /// Adds the operations of the process of this number that are kept.
