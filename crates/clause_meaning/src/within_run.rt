@@ -128,7 +128,7 @@ fn only(meaning: ClauseMeaning, place: usize) -> Option<ClauseMeaning>
     if place == 0 { Some(meaning) } else { None }
 }
 
-/// Whether the clause at this place of two is the second of them.
+/// Returns whether the clause at this place of two is the second of them.
 fn is_second_at(place: usize) -> Option<bool>
     ensures { result ≡ slice_get (false ∷ true ∷ []) place }
 {
