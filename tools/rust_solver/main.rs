@@ -45,7 +45,7 @@ use schedule_text::schedule_writer::write_schedule;
 use seat_rounds::seats::Seats;
 use shim::{Global, setting};
 use solver::{PreparedFormula, Search, solve_cube};
-use state_model::{StateSearch, model_by_states};
+use state_model::{StateSearchKind, model_by_states};
 use std::collections::HashMap;
 use std::env;
 use std::fmt;
@@ -259,8 +259,8 @@ impl<S: SharingLearner + Send> SeatSearch<S> {
 }
 
 /// A model by a search of states of this name, if there is one. The phase has the same name.
-fn model_of(reduced: &Reduced, clauses: &TraceClauses, search: StateSearch, name: &'static str, report: &mut Report) -> Option<Answer> {
-    let model = model_by_states(Global, reduced.kept(), clauses, search).expect("memory");
+fn model_of(reduced: &Reduced, clauses: &TraceClauses, kind: StateSearchKind, name: &'static str, report: &mut Report) -> Option<Answer> {
+    let model = model_by_states(Global, reduced.kept(), clauses, kind).expect("memory");
     report.end(name);
     let model = model?;
     report.found_by = format!("{name} search");
@@ -276,18 +276,18 @@ fn search_on<'a>(
     budget: u64,
     report: &mut Report,
 ) -> Answer {
-    let found = model_of(reduced, clauses, StateSearch::Narrow, "narrow", report);
+    let found = model_of(reduced, clauses, StateSearchKind::Narrow, "narrow", report);
     if let Some(answer) = found {
         return answer;
     }
     shim::note_steps(0, 0);
     let mut seats = SeatSearch::new(prepared.begin_seats(Global, first).expect("memory"), budget, report);
-    let early = (setting!("EARLY_ROUNDS", u64, 8), StateSearch::Broad, "early", "broad");
-    let later = (setting!("LATER_ROUNDS", u64, 16), StateSearch::Spendthrift, "later", "spendthrift");
-    for (rounds, search, phase, name) in [early, later] {
+    let early = (setting!("EARLY_ROUNDS", u64, 8), StateSearchKind::Broad, "early", "broad");
+    let later = (setting!("LATER_ROUNDS", u64, 16), StateSearchKind::Spendthrift, "later", "spendthrift");
+    for (rounds, kind, phase, name) in [early, later] {
         let found = seats.go_on(rounds, report);
         report.end(phase);
-        let found = found.or_else(|| model_of(reduced, clauses, search, name, report));
+        let found = found.or_else(|| model_of(reduced, clauses, kind, name, report));
         if let Some(answer) = found {
             return answer;
         }

@@ -13,6 +13,7 @@ use crate::proof_log::ProofLog;
 use crate::searching::{SearchEnd, search_on};
 use crate::shared_clauses::SharedClauses;
 use dimacs::Assignment;
+use lrat_check::derivation::Derivation;
 use std::alloc::{AllocError, Global};
 use std::mem;
 
@@ -26,6 +27,13 @@ pub struct Attempt<S> {
     search: S,
     /// The clauses that the search has learned.
     pub log: ProofLog,
+}
+
+/// Returns the derivation as an answer, if there is one of at most `budget` steps.
+fn answer_within(found: Option<Derivation>, budget: u64) -> Option<Answer>
+    ensures { IfSome result (λ answer. IsWithin budget answer) }
+{
+    refuted_within(found?, budget)
 }
 
 impl<S: Learner + Drop> Attempt<S> {
@@ -89,10 +97,8 @@ impl<S: Learner + Drop> Attempt<S> {
         ensures log { OnOk result (self.new.log ≡ self.old.log) }
         ensures answer { IfOk result (λ found. IfSome found (λ answer. IsWithin budget answer)) }
     {
-        match self.search.refute_at_root(&self.log, budget)? {
-            Some(derivation) => Ok(refuted_within(derivation, budget)),
-            None => Ok(None),
-        }
+        let found = self.search.refute_at_root(&self.log, budget)?;
+        Ok(answer_within(found, budget))
     }
 
     /// Takes a turn of at most `share` conflicts, and then, if others are left, looks for a derivation that takes no further one.
@@ -139,10 +145,8 @@ impl<S: SharingLearner + Drop> Attempt<S> {
         ensures log { OnOk result (self.new.log ≡ self.old.log) }
         ensures answer { IfOk result (λ found. IfSome found (λ answer. IsWithin budget answer)) }
     {
-        match self.search.refute_by_chain(chain, budget)? {
-            Some(derivation) => Ok(refuted_within(derivation, budget)),
-            None => Ok(None),
-        }
+        let found = self.search.refute_by_chain(chain, budget)?;
+        Ok(answer_within(found, budget))
     }
 
     /// From now on the search goes on in rounds with others. Its log stays as it is.

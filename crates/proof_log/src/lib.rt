@@ -7,7 +7,7 @@
 //! - `Answer` is the result: a model, a derivation within the budget, or open.
 //! - `SharingLearner` is a search that hands `SharedClauses` to others of the same formula, and takes in theirs. A `LogChain` has the logs of
 //!   such searches one after the other, and makes one derivation of them.
-//! - `LearnedClauses` is a log or a chain for those who add further steps.
+//! - `LoggedAdditions` is a log or a chain for those who add further steps.
 //! - `CubeSolver` is what answers the cubes of a formula, each within a budget.
 //! - `within` and `refuted_within` keep derivations that no search has made to a budget.
 //! - `codes` says how literals and variables are written as numbers, and `ClauseId` is the number of a clause.
@@ -21,7 +21,7 @@ mod attempt;
 mod clause_id;
 pub mod codes;
 mod cube_solver;
-mod learned_clauses;
+mod logged_additions;
 mod learner;
 mod limit;
 mod log_chain;
@@ -33,7 +33,7 @@ pub use answer::Answer;
 pub use attempt::{Attempt, TURN, search_alone, take_turns};
 pub use clause_id::ClauseId;
 pub use cube_solver::CubeSolver;
-pub use learned_clauses::LearnedClauses;
+pub use logged_additions::LoggedAdditions;
 pub use learner::{Learner, SharingLearner};
 pub use limit::{refuted_within, within};
 pub use log_chain::LogChain;

@@ -3,7 +3,7 @@
 ghost use Rattle.std.specs.Prelude.{◌≡◌, ◌≤◌, ◌+◌, length, IfOk, OnOk};
 
 use crate::clause_id::ClauseId;
-use crate::learned_clauses::LearnedClauses;
+use crate::logged_additions::LoggedAdditions;
 use crate::proof_log::{ProofLog, mark};
 use lrat_check::derivation::{Derivation, Step};
 use std::alloc::{AllocError, Global};
@@ -100,7 +100,7 @@ impl LogChain {
     }
 }
 
-impl LearnedClauses for LogChain {
+impl LoggedAdditions for LogChain {
     fn free_id(&self) -> ClauseId {
         self.first.ahead(self.width())
     }

@@ -7,7 +7,7 @@ ghost use Rattle.std.specs.Prelude.{◌≡◌, ◌≤◌, ◌+◌, length, IfOk,
 
 use crate::clause_id::ClauseId;
 use crate::codes::{LiteralCode, literal_of};
-use crate::learned_clauses::LearnedClauses;
+use crate::logged_additions::LoggedAdditions;
 use dimacs::Clause;
 use lrat_check::derivation::{Derivation, Step};
 use lrat_check::hints::Hints;
@@ -230,7 +230,7 @@ impl ProofLog {
     }
 }
 
-impl LearnedClauses for ProofLog {
+impl LoggedAdditions for ProofLog {
     fn free_id(&self) -> ClauseId {
         self.next_id()
     }

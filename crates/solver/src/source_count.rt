@@ -18,7 +18,7 @@ use counting_proofs::{
 };
 use lrat_check::derivation::{Derivation, Step};
 use proof_log::codes::{LiteralCode, Variable};
-use proof_log::{Answer, ClauseId, LearnedClauses, ProofLog, TURN, refuted_within};
+use proof_log::{Answer, ClauseId, LoggedAdditions, ProofLog, TURN, refuted_within};
 use std::alloc::AllocError;
 
 /// Returns the order that is known at level 0.
@@ -75,7 +75,7 @@ impl<'a> Search<'a> {
 
     /// Derives each of these literals as a unit clause at level 0. Returns the ids of the unit clauses, the proof steps that add them,
     /// after those steps of the log on which they rest, and the next free id.
-    fn unit_clauses<L: LearnedClauses>(
+    fn unit_clauses<L: LoggedAdditions>(
         &mut self,
         literals: &[u32],
         log: &L,
@@ -128,7 +128,7 @@ impl<'a> Search<'a> {
     }
 
     /// Returns a derivation of the contradiction, if it takes at most `budget` steps. The log has what was learned.
-    fn refute_contradiction<L: LearnedClauses>(
+    fn refute_contradiction<L: LoggedAdditions>(
         &mut self,
         reads: &MatchingInstance,
         found: &SourceContradiction,
@@ -160,7 +160,7 @@ impl<'a> Search<'a> {
     /// Returns a derivation of at most `budget` steps, if there is a contradiction of readers and sources. The log has what was learned,
     /// and nothing is decided. It is called after a turn and after a round, and for a formula before its cubes are searched (`whole.rt`). If the derivation takes more steps,
     /// the search goes on, or begins.
-    pub(crate) fn refute_by_counting<L: LearnedClauses>(
+    pub(crate) fn refute_by_counting<L: LoggedAdditions>(
         &mut self,
         log: &L,
         budget: u64,

@@ -7,4 +7,4 @@
 mod model;
 mod state_schedules;
 
-pub use state_schedules::{StateSearch, model_by_states};
+pub use state_schedules::{StateSearchKind, model_by_states};

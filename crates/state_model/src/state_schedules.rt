@@ -9,9 +9,9 @@ use std::alloc::{AllocError, Global};
 use trace_log::log_of;
 use trace_semantics::trace::Trace;
 
-/// A search of states that looks for a schedule.
+/// How a search of states looks for a schedule.
 #[derive(Clone, Copy)]
-pub enum StateSearch {
+pub enum StateSearchKind {
     /// It goes on from few states.
     Narrow,
     /// It goes on from more states.
@@ -47,12 +47,12 @@ fn busy_processes(log: &NumberedLog) -> u32 {
     count
 }
 
-/// How broad this search of the log is.
-fn breadth_of(log: &NumberedLog, search: StateSearch) -> Breadth {
-    let (states, spare_weight) = match search {
-        StateSearch::Narrow => (NARROW_STATES, SPARE_WEIGHT),
-        StateSearch::Broad => (BROAD_STATES, SPARE_WEIGHT),
-        StateSearch::Spendthrift => (BROAD_STATES, SMALL_SPARE_WEIGHT),
+/// Returns how broad a search of this kind is for the log.
+fn breadth_of(log: &NumberedLog, kind: StateSearchKind) -> Breadth {
+    let (states, spare_weight) = match kind {
+        StateSearchKind::Narrow => (NARROW_STATES, SPARE_WEIGHT),
+        StateSearchKind::Broad => (BROAD_STATES, SPARE_WEIGHT),
+        StateSearchKind::Spendthrift => (BROAD_STATES, SMALL_SPARE_WEIGHT),
     };
     // A log without operations has one state.
     let processes = busy_processes(log).max(1);
@@ -62,19 +62,19 @@ fn breadth_of(log: &NumberedLog, search: StateSearch) -> Breadth {
     }
 }
 
-/// A model of these clauses, which are those of the trace, if this search of states schedules it. Such a search heeds program order alone, so a trace that
+/// A model of these clauses, which are those of the trace, if a search of states of this kind schedules it. Such a search heeds program order alone, so a trace that
 /// says of other operations which stands first is left to others. So is one with a value of a known origin.
 pub fn model_by_states(
     alloc: Global,
     trace: &Trace,
     clauses: &TraceClauses,
-    search: StateSearch,
+    kind: StateSearchKind,
 ) -> Result<Option<Assignment>, AllocError> {
     if !clauses.layout().before().is_empty() {
         return Ok(None);
     }
     let log = log_of(alloc, trace)?;
-    let breadth = breadth_of(&log, search);
+    let breadth = breadth_of(&log, kind);
     match schedule_by_states(alloc, &log, breadth, Budget::new(LOOKS))? {
         Some(schedule) => Ok(Some(model_along(alloc, clauses, schedule.as_slice())?)),
         None => Ok(None),

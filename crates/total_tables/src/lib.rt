@@ -69,6 +69,19 @@ pub fn first_place<F: Fn(u32) -> bool>(begin: u32, end: u32, passes: F) -> u32
     low
 }
 
+/// Returns the number of slots of a hash table for this number of entries: a power of two, and at least twice as many, so that a search meets a free slot
+/// soon. It is no lower than the first of these two, and no higher than the second, which are powers of two themselves.
+pub fn slots_for(entries: u32, fewest: u32, most: u32) -> u32 {
+    let mut slots = fewest;
+    for _ in 0..32 {
+        if slots >= most || slots / 2 >= entries {
+            break;
+        }
+        slots = slots.wrapping_mul(2);
+    }
+    slots
+}
+
 /// Replaces each entry by the sum of those up to it, itself among them. So if the entry at k + 1 counts what k has, the one at k becomes the place where its
 /// part begins.
 pub fn sum_up(table: &mut [u32]) {

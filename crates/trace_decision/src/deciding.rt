@@ -29,7 +29,7 @@ use result_ledger::{Ledger, Verdict, inconsistent_has_no_model, unknown_holds_al
 use schedule_decode::decode::schedule_of;
 use seat_rounds::SeatSearch;
 use solver::{Answer, CubeSolver, PreparedFormula, ReadsFromTable, Search, SourceCounter};
-use state_model::{StateSearch, model_by_states};
+use state_model::{StateSearchKind, model_by_states};
 use std::alloc::{AllocError, Global};
 use std::sync::Wait;
 use std::thread::Threads;
@@ -124,8 +124,8 @@ struct KeptTrace<'a> {
 
 /// The broad searches of states, each after some further rounds of the four searches. An easy trace is decided in fewer rounds, and most that have a
 /// schedule that the narrow search does not find get it from the first of these.
-const BROAD_SEARCHES: [(u64, StateSearch); 2] =
-    [(8, StateSearch::Broad), (16, StateSearch::Spendthrift)];
+const BROAD_SEARCHES: [(u64, StateSearchKind); 2] =
+    [(8, StateSearchKind::Broad), (16, StateSearchKind::Spendthrift)];
 
 /// Goes on where one search of the whole formula has stopped: a narrow search of the trace's states looks for a schedule, and then four searches go on until the
 /// budget is used up, between whose rounds broad searches of states look for one.
@@ -138,16 +138,16 @@ fn search_on<'a, R: Threads + Wait + Sync, G: Gate>(
     let alloc = run.alloc;
     let clauses = kept.clauses;
     let budget = run.options.budget();
-    if let Some(model) = model_by_states(alloc, kept.trace, clauses, StateSearch::Narrow)? {
+    if let Some(model) = model_by_states(alloc, kept.trace, clauses, StateSearchKind::Narrow)? {
         return Ok(Answer::Model(model));
     }
     let tree = grow(alloc, clauses.layout(), SEATS_DEPTH)?;
     let mut seats = SeatSearch::new(alloc, prepared.begin_seats(alloc, first)?, budget)?;
-    for (rounds, search) in &BROAD_SEARCHES {
+    for (rounds, kind) in &BROAD_SEARCHES {
         if let Some(answer) = seats.go_on(run, clauses, &tree, *rounds, budget)? {
             return Ok(answer);
         }
-        if let Some(model) = model_by_states(alloc, kept.trace, clauses, *search)? {
+        if let Some(model) = model_by_states(alloc, kept.trace, clauses, *kind)? {
             return Ok(Answer::Model(model));
         }
     }

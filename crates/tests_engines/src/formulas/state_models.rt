@@ -4,7 +4,7 @@ use crate::expectations::ample;
 use crate::traces::{HAND_OFF, STORE_BUFFERING, reduced_of};
 use clause_blocks::trace_clauses::TraceClauses;
 use dimacs::{Assignment, ClauseList};
-use state_model::{StateSearch, model_by_states};
+use state_model::{StateSearchKind, model_by_states};
 use std::alloc::Global;
 use std::process::Abort;
 
@@ -15,44 +15,44 @@ const UPDATES_IN_A_RING: &str =
 /// It has a schedule, and says of two operations which stands first.
 const WITH_BEFORE: &str = "vsc 2\nproc P\nW x 1\nproc Q\nR x 1\nW x 2\nbefore P 1 Q 2\n";
 
-/// The model that this search of states finds of the trace, if it makes all clauses true.
+/// The model that a search of states of this kind finds of the trace, if it makes all clauses true.
 fn model_of(
     rt: &impl Abort,
     alloc: Global,
     text: &str,
-    search: StateSearch,
+    kind: StateSearchKind,
 ) -> Option<Assignment> {
     let reduced = reduced_of(rt, alloc, text);
     let clauses = ample(rt, TraceClauses::of(alloc, &reduced));
     let model = ample(
         rt,
-        model_by_states(alloc, reduced.kept(), &clauses, search),
+        model_by_states(alloc, reduced.kept(), &clauses, kind),
     )?;
     assert!(rt; clauses.eval(&model).is_ok());
     Some(model)
 }
 
-const ALL_SEARCHES: [StateSearch; 3] = [
-    StateSearch::Narrow,
-    StateSearch::Broad,
-    StateSearch::Spendthrift,
+const ALL_KINDS: [StateSearchKind; 3] = [
+    StateSearchKind::Narrow,
+    StateSearchKind::Broad,
+    StateSearchKind::Spendthrift,
 ];
 
 #[test]
 fn a_model_is_found_where_there_is_a_schedule(rt: HostRuntime) {
-    for search in &ALL_SEARCHES {
-        let Some(model) = model_of(&rt, rt.alloc(), HAND_OFF, *search) else {
+    for kind in &ALL_KINDS {
+        let Some(model) = model_of(&rt, rt.alloc(), HAND_OFF, *kind) else {
             panic!(rt; "the write comes first, and then the read");
         };
         assert!(rt; model.value(1) && model.value(2));
-        assert!(rt; model_of(&rt, rt.alloc(), UPDATES_IN_A_RING, *search).is_some());
-        assert!(rt; model_of(&rt, rt.alloc(), STORE_BUFFERING, *search).is_none());
+        assert!(rt; model_of(&rt, rt.alloc(), UPDATES_IN_A_RING, *kind).is_some());
+        assert!(rt; model_of(&rt, rt.alloc(), STORE_BUFFERING, *kind).is_none());
     }
 }
 
 #[test]
 fn known_order_is_left_to_others(rt: HostRuntime) {
-    for search in &ALL_SEARCHES {
-        assert!(rt; model_of(&rt, rt.alloc(), WITH_BEFORE, *search).is_none());
+    for kind in &ALL_KINDS {
+        assert!(rt; model_of(&rt, rt.alloc(), WITH_BEFORE, *kind).is_none());
     }
 }

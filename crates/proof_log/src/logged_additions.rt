@@ -5,7 +5,7 @@ use lrat_check::derivation::Step;
 use std::alloc::{AllocError, Global};
 
 /// Clauses that one search or several have learned, of which further steps cite some. Nothing is promised of them: a derivation is checked.
-pub trait LearnedClauses {
+pub trait LoggedAdditions {
     /// Returns a number that no addition has, and none after it.
     fn free_id(&self) -> ClauseId;
 
