@@ -3,7 +3,7 @@
 //! Past the end of a table `at` reads as its last argument, and `put` does nothing; so arithmetic may wrap, and a wrong place makes no fault.
 
 use crate::explanation::Explanation;
-use numbered_log::{NO_NUMBER, NOBODY, OperationId, ProcessId, ProcessPlace};
+use numbered_log::{Fronts, NO_NUMBER, NOBODY, OperationId, ProcessId};
 use order_propagation::Propagation;
 use std::alloc::{AllocError, Global};
 use total_tables::{at, put};
@@ -11,8 +11,7 @@ use total_tables::{at, put};
 /// The next operation of each process after all that may be placed one after the other by the order and the possible sources alone. What is
 /// left by then is stuck, whatever was placed when.
 pub(crate) struct StuckHeads {
-    /// For each process the place of its next operation.
-    fronts: Vec<ProcessPlace>,
+    fronts: Fronts,
     /// The processes of a set of which no next operation can come before another of them.
     is_in_set: Vec<bool>,
     /// Looks that are taken out of the budget when the set is found.
@@ -38,7 +37,7 @@ impl StuckHeads {
     ) -> Result<Option<StuckHeads>, AllocError> {
         let processes = order.log().processes();
         let mut heads = StuckHeads {
-            fronts: vec![in alloc; ProcessPlace::FIRST; processes as usize]?,
+            fronts: Fronts::new(alloc, processes)?,
             is_in_set: vec![in alloc; false; processes as usize]?,
             looked: 0,
         };
@@ -48,14 +47,9 @@ impl StuckHeads {
         Ok(if is_stuck { Some(heads) } else { None })
     }
 
-    /// The place of the process's next operation.
-    fn front(&self, process: ProcessId) -> ProcessPlace {
-        at(self.fronts.as_slice(), process.number(), ProcessPlace::FAR)
-    }
-
     /// The next operation of the process, or `NOBODY`.
     fn head(&self, order: &Propagation<'_>, process: ProcessId) -> OperationId {
-        let front = self.front(process);
+        let front = self.fronts.of(process);
         if front <= order.log().last_place(process) {
             order.log().number(process, front)
         } else {
@@ -83,7 +77,7 @@ impl StuckHeads {
 
     /// Places the next operations of the process up to the first that is stuck. Returns whether there are any.
     fn place_some(&mut self, order: &Propagation<'_>, process: ProcessId) -> bool {
-        let begin = self.front(process);
+        let begin = self.fronts.of(process);
         for place in begin.up_to(order.log().end(process)) {
             let number = order.log().number(process, place);
             self.looked = self.looked.wrapping_add(order.log().processes() as u64);
@@ -92,9 +86,9 @@ impl StuckHeads {
             {
                 break;
             }
-            put(self.fronts.as_mut_slice(), process.number(), place.next());
+            self.fronts.set(process, place.next());
         }
-        self.front(process) > begin
+        self.fronts.of(process) > begin
     }
 
     /// A process whose next operation, or one behind it, stands before this one: one of the set if there is one, or none.
@@ -102,7 +96,7 @@ impl StuckHeads {
         let own = order.log().operation(number).process;
         let mut found = ProcessId::NONE;
         for process in order.log().process_ids() {
-            if process != own && order.rows().before(number, process) >= self.front(process) {
+            if process != own && order.rows().before(number, process) >= self.fronts.of(process) {
                 if self.is_member(process) {
                     return process;
                 }
@@ -129,7 +123,7 @@ impl StuckHeads {
     fn has_placed(&self, order: &Propagation<'_>, number: OperationId, run: u32) -> bool {
         let low = order.sources().low(number, run);
         let writer = order.log().operation(order.classes().writer(low));
-        low < order.sources().high(number, run) && writer.place < self.front(writer.process)
+        low < order.sources().high(number, run) && self.fronts.has_passed(writer)
     }
 
     /// Chooses a small set, grown from one stuck process. Returns whether there is one. It is small since the line names each member and
