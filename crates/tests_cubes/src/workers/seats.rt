@@ -47,6 +47,14 @@ const NONE_WITH_MEMORY: [(u32, TalkEnd); 4] = [
     (101, TalkEnd::FindsNoMemory),
 ];
 
+/// Four searches, the second and the third of which are refuted without a further conflict after the fifth round.
+const TWO_REFUTABLE: [(u32, TalkEnd); 4] = [
+    (1000, TalkEnd::Lies),
+    (450, TalkEnd::IsRefutable),
+    (430, TalkEnd::IsRefutable),
+    (1000, TalkEnd::Lies),
+];
+
 /// The answer that this number of workers finds by searches of these ends.
 fn answer_by<R: Threads + Wait + Abort + Sync>(
     alloc: Global,
@@ -113,6 +121,12 @@ fn assert_found<R: Threads + Wait + Abort + Sync>(
 fn each_number_of_workers_finds_the_same(rt: HostRuntime) {
     assert_found(rt.alloc(), &rt, &TWO_LIE, 1675);
     assert_found(rt.alloc(), &rt, &ONE_WITHOUT_MEMORY, 1499);
+}
+
+// The derivation of the second has its 500 additions of five rounds, and of each other search the 400 of the four rounds before: these are all that it has taken.
+#[test]
+fn a_search_is_refuted_after_a_round_by_what_all_have_learned(rt: HostRuntime) {
+    assert_found(rt.alloc(), &rt, &TWO_REFUTABLE, 1700);
 }
 
 #[test]

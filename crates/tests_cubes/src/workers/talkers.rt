@@ -1,9 +1,11 @@
-//! Searches that share what they learn, and lie or find no memory in the end.
+//! Searches that share what they learn, and lie, find no memory or say that they are refuted in the end.
 
 use dimacs::Assignment;
 use lrat_check::derivation::Derivation;
 use proof_log::codes::{LiteralCode, Variable};
-use proof_log::{Attempt, ClauseId, Learner, ProofLog, SharedClauses, SharingLearner};
+use proof_log::{
+    Attempt, ClauseId, Learner, LogChain, LoggedAdditions, ProofLog, SharedClauses, SharingLearner,
+};
 use std::alloc::{AllocError, Global};
 use std::mem;
 
@@ -17,6 +19,8 @@ pub enum TalkEnd {
     Lies,
     /// It finds no memory.
     FindsNoMemory,
+    /// It goes on, but after the round it has a derivation that takes no further conflict: all on which its last clause rests.
+    IsRefutable,
 }
 
 /// A search that meets a conflict whenever it is asked. What it learns says that the first variable is true, and rests on what it learned last and on
@@ -59,7 +63,7 @@ impl Learner for Talker {
         }
         self.hints = mem::replace(&mut self.next_hints, Vec::new(self.alloc));
         self.learned.clear();
-        if self.left > 0 {
+        if self.left > 0 || self.end == TalkEnd::IsRefutable {
             self.learned.push(Variable::new(1).positive())?;
         }
         Ok(())
@@ -103,6 +107,19 @@ impl SharingLearner for Talker {
             self.next_hints.push(clauses.clause(place).id)?;
         }
         Ok(())
+    }
+
+    fn is_refutable_at_root(&mut self) -> Result<bool, AllocError> {
+        Ok(self.left == 0)
+    }
+
+    fn refute_by_chain(
+        &mut self,
+        chain: &LogChain,
+        _budget: u64,
+    ) -> Result<Option<Derivation>, AllocError> {
+        let steps = chain.steps_to(self.alloc, self.next_hints.as_slice())?;
+        Ok(Some(Derivation::new(steps)))
     }
 }
 
