@@ -124,8 +124,10 @@ struct KeptTrace<'a> {
 
 /// The broad searches of states, each after some further rounds of the four searches. An easy trace is decided in fewer rounds, and most that have a
 /// schedule that the narrow search does not find get it from the first of these.
-const BROAD_SEARCHES: [(u64, StateSearchKind); 2] =
-    [(8, StateSearchKind::Broad), (16, StateSearchKind::Spendthrift)];
+const BROAD_SEARCHES: [(u64, StateSearchKind); 2] = [
+    (8, StateSearchKind::Broad),
+    (16, StateSearchKind::Spendthrift),
+];
 
 /// Goes on where one search of the whole formula has stopped: a narrow search of the trace's states looks for a schedule, and then four searches go on until the
 /// budget is used up, between whose rounds broad searches of states look for one.

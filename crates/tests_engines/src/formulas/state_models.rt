@@ -24,10 +24,7 @@ fn model_of(
 ) -> Option<Assignment> {
     let reduced = reduced_of(rt, alloc, text);
     let clauses = ample(rt, TraceClauses::of(alloc, &reduced));
-    let model = ample(
-        rt,
-        model_by_states(alloc, reduced.kept(), &clauses, kind),
-    )?;
+    let model = ample(rt, model_by_states(alloc, reduced.kept(), &clauses, kind))?;
     assert!(rt; clauses.eval(&model).is_ok());
     Some(model)
 }
