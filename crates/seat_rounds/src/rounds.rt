@@ -75,10 +75,10 @@ impl<S: SharingLearner + Drop + Send> SeatSearch<S> {
         conflicts
     }
 
-    /// Goes on for at most this many rounds. The answer is that of the lowest search that has one, or `Open` if all together have had their conflicts;
-    /// there is none yet if the rounds are over before. After each round the searches exchange what they have learned. One whose number is not that of a
+    /// Goes on for at most this many rounds. The answer is that of the lowest search that has ended with one, or else of the lowest that is refuted without a
+    /// further conflict, or `Open` if all together have had their conflicts; there is none yet if the rounds are over before. After each round the searches exchange what they have learned. One whose number is not that of a
     /// leaf of the tree waits. Each round is searched by the workers of the options, and the gate gets its conflicts. A derivation has at most `steps`
-    /// steps: if a longer one is found, the answer is `Open`.
+    /// steps: if a search ends with a longer one, the answer is `Open`, and if one takes more without a further conflict, the search goes on.
     pub fn go_on<R: Threads + Wait + Sync, L: ClauseList + Sync, G: Gate>(
         &mut self,
         run: &SearchRun<'_, R, G>,

@@ -23,8 +23,8 @@ impl<S: SharingLearner + Drop> Seat<S> {
         }
     }
 
-    /// Takes in what the other seats gave, and goes on for at most this many conflicts. If it is open then, it looks for a contradiction that takes no further
-    /// one: that is done here, and not between the rounds, since all seats do it at once.
+    /// Takes in what the other seats gave, and goes on for at most this many conflicts. If it is open then, it looks whether it is refuted without a further
+    /// one. That is done here, where all seats do it side by side, and not between the rounds.
     fn try_to_run(
         &mut self,
         number: usize,

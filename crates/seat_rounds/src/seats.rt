@@ -9,12 +9,12 @@ use proof_log::{Answer, Attempt, ClauseId, LogChain, SearchEnd, SharingLearner, 
 use std::alloc::{AllocError, Global};
 use std::sync::Mutex;
 
-/// The seats, with the logs of all rounds before the last one.
+/// The seats, with the logs that were collected.
 #[derive(Drop)]
 pub(crate) struct Seats<S> {
     alloc: Global,
     pub(crate) round: Round<S>,
-    /// The logs of all rounds before the last one, in the order in which a derivation may use them.
+    /// The logs of all rounds before the last one, and of that one too once a derivation was looked for, in the order in which a derivation may use them.
     chain: LogChain,
     /// A number that no addition has, and none after it.
     next: ClauseId,
@@ -116,7 +116,7 @@ impl<S: SharingLearner + Drop> Seats<S> {
     }
 
     /// Returns the answer of the first open seat that has a derivation which takes no further conflict, of at most `budget` steps. It may rest on what any seat
-    /// has learned in any round.
+    /// has learned in any round. A seat whose derivation is longer is asked again after each round.
     fn refutation_at_root(&mut self, budget: u64) -> Result<Option<Answer>, AllocError>
         ensures { IfOk result (λ found. IfSome found (λ answer. IsWithin budget answer)) }
     {

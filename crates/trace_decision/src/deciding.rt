@@ -122,8 +122,8 @@ struct KeptTrace<'a> {
     clauses: &'a TraceClauses,
 }
 
-/// The broad searches of states, each after some further rounds of the four searches. An easy trace is decided in fewer rounds, and most that have a
-/// schedule that the narrow search does not find get it from the first of these.
+/// The broad searches of states, each after some further rounds of the four searches. An easy trace is decided in fewer rounds. Of four traces that broad
+/// searches scheduled, the first one scheduled three.
 const BROAD_SEARCHES: [(u64, StateSearchKind); 2] = [
     (8, StateSearchKind::Broad),
     (16, StateSearchKind::Spendthrift),
@@ -146,8 +146,10 @@ fn search_on<'a, R: Threads + Wait + Sync, G: Gate>(
     let tree = grow(alloc, clauses.layout(), SEATS_DEPTH)?;
     let mut seats = SeatSearch::new(alloc, prepared.begin_seats(alloc, first)?, budget)?;
     for (rounds, kind) in &BROAD_SEARCHES {
-        if let Some(answer) = seats.go_on(run, clauses, &tree, *rounds, budget)? {
-            return Ok(answer);
+        match seats.go_on(run, clauses, &tree, *rounds, budget)? {
+            // If the conflicts are used up, a schedule is looked for nevertheless.
+            None | Some(Answer::Open) => (),
+            Some(answer) => return Ok(answer),
         }
         if let Some(model) = model_by_states(alloc, kept.trace, clauses, *kind)? {
             return Ok(Answer::Model(model));
