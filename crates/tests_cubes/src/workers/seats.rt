@@ -1,11 +1,12 @@
-//! Searches that share what they learn: each number of workers finds the same, one that lies is found out, and one without memory is left out.
+//! Searches that share what they learn: each number of workers finds the same, one that lies is found out, one without memory is left out, and one is refuted
+//! after a round.
 
 use crate::workers::searches::{formula_of, tree_of};
 use crate::workers::talkers::{TalkEnd, talkers};
 use cube_jobs::{OpenGate, Options, SearchRun};
 use dimacs::Formula;
 use lrat_check::checker::check;
-use lrat_check::derivation::Derivation;
+use lrat_check::derivation::{Derivation, Step};
 use lrat_check::derivation_copies::are_same;
 use proof_log::Answer;
 use seat_rounds::SeatSearch;
@@ -55,13 +56,22 @@ const TWO_REFUTABLE: [(u32, TalkEnd); 4] = [
     (1000, TalkEnd::Lies),
 ];
 
-/// The answer that this number of workers finds by searches of these ends.
-fn answer_by<R: Threads + Wait + Abort + Sync>(
+/// The same, but that the third lies in the fifth round.
+const ONE_LIES_BESIDE_A_REFUTABLE: [(u32, TalkEnd); 4] = [
+    (1000, TalkEnd::Lies),
+    (450, TalkEnd::IsRefutable),
+    (430, TalkEnd::Lies),
+    (1000, TalkEnd::Lies),
+];
+
+/// The answer that this number of workers finds by searches of these ends, with a derivation of at most this many steps.
+fn answer_within<R: Threads + Wait + Abort + Sync>(
     alloc: Global,
     rt: &R,
     formula: &Formula,
     ends: &[(u32, TalkEnd)],
     workers: u32,
+    steps: u64,
 ) -> Answer {
     let tree = tree_of(rt, alloc, FOUR_LEAVES);
     let Ok(options) = Options::new(workers, 3, BUDGET, 1) else {
@@ -81,13 +91,24 @@ fn answer_by<R: Threads + Wait + Abort + Sync>(
     };
     // Six rounds use up the conflicts, so the answer is there in the seventh at the latest.
     for _ in 0..7 {
-        match seats.go_on(&run, formula, &tree, 1, BUDGET) {
+        match seats.go_on(&run, formula, &tree, 1, steps) {
             Ok(Some(answer)) => return answer,
             Ok(None) => (),
             Err(_) => panic!(rt; "there is no memory, or no thread"),
         }
     }
     panic!(rt; "there is no answer in seven rounds")
+}
+
+/// The answer that this number of workers finds by searches of these ends.
+fn answer_by<R: Threads + Wait + Abort + Sync>(
+    alloc: Global,
+    rt: &R,
+    formula: &Formula,
+    ends: &[(u32, TalkEnd)],
+    workers: u32,
+) -> Answer {
+    answer_within(alloc, rt, formula, ends, workers, BUDGET)
 }
 
 /// The derivation that was found.
@@ -123,10 +144,32 @@ fn each_number_of_workers_finds_the_same(rt: HostRuntime) {
     assert_found(rt.alloc(), &rt, &ONE_WITHOUT_MEMORY, 1499);
 }
 
-// The derivation of the second has its 500 additions of five rounds, and of each other search the 400 of the four rounds before: these are all that it has taken.
+// The derivation of the second has its 500 additions of five rounds, and of each other search the 400 of the four rounds before: these are all that it has
+// taken. The additions of the fifth round have ids from 1602 on, 100 for each search. One that ends in that round comes before it, with 430 of its own.
 #[test]
 fn a_search_is_refuted_after_a_round_by_what_all_have_learned(rt: HostRuntime) {
     assert_found(rt.alloc(), &rt, &TWO_REFUTABLE, 1700);
+    assert_found(rt.alloc(), &rt, &ONE_LIES_BESIDE_A_REFUTABLE, 1630);
+    let alloc = rt.alloc();
+    let formula = formula_of(&rt, alloc, ONE_CLAUSE);
+    let derivation = found(&rt, answer_by(alloc, &rt, &formula, &TWO_REFUTABLE, 4));
+    assert!(&rt;
+        matches!(
+            derivation.steps().last(),
+            Some(Step::Addition { id: 1801, .. })
+        )
+    );
+}
+
+// After the fifth round no derivation is short enough, and after the sixth it is longer.
+#[test]
+fn after_a_derivation_that_is_too_long_the_search_goes_on(rt: HostRuntime) {
+    let alloc = rt.alloc();
+    let formula = formula_of(&rt, alloc, ONE_CLAUSE);
+    let answer = answer_within(alloc, &rt, &formula, &TWO_REFUTABLE, 4, 1699);
+    assert!(&rt; matches!(answer, Answer::Open));
+    let answer = answer_within(alloc, &rt, &formula, &TWO_REFUTABLE, 4, 1700);
+    assert!(&rt; matches!(answer, Answer::Refuted(_)));
 }
 
 #[test]
