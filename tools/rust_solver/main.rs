@@ -287,7 +287,8 @@ fn search_on<'a>(
     for (rounds, kind, phase, name) in [early, later] {
         let found = seats.go_on(rounds, report);
         report.end(phase);
-        let found = found.or_else(|| model_of(reduced, clauses, kind, name, report));
+        // If the conflicts are used up, a schedule is looked for nevertheless.
+        let found = found.filter(|answer| !matches!(answer, Answer::Open)).or_else(|| model_of(reduced, clauses, kind, name, report));
         if let Some(answer) = found {
             return answer;
         }
