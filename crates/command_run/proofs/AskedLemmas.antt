@@ -1,17 +1,19 @@
 -- Files that are written or read if they are asked for.
 use Rattle.std.specs.Borrow.{Bor}
 use Rattle.std.proofs.Common.{◌≡◌, ◌∙◌, inr, ℕ, Bool, true, false, true≢false, List, [], ◌∷◌, Option, None, Some, Result, ap, refl, subst, sym}
+use Rattle.verdict_report.specs.Fault.{exit_status_of}
 use Rattle.verdict_report.specs.Runs.{SinkRun, SourceRun, sink_run, source_run}
 use Rattle.verdict_report.specs.declared.fault.Fault.{Fault}
 use Rattle.verdict_report.specs.declared.status.Status.{Status}
 use Rattle.command_host.specs.HostCalls.{HostCalls}
-use Rattle.command_host.specs.Streams.{SourceView, sink_view, source_view}
+use Rattle.command_host.specs.Streams.{SinkView, SourceView, sink_view, source_view}
 use Rattle.command_run.proofs.RunLemmas.{reads_file}
 use Rattle.command_run.specs.AskedFiles.{ClosesAsked, MakesAsked, file_failures, file_path, file_taken}
 use Rattle.command_run.specs.AskedTexts.{OpensAsked, text_failures, text_handed_out, text_is_at_end, text_path}
 use Rattle.command_line.specs.CommandLine.{is_explained}
 use Rattle.command_line.specs.declared.line.CommandLine.{CommandLine}
-use Rattle.command_run.specs.CommandRun.{Draws, EndsAsked, EndsDrawn, WithFile, WithHint}
+use Rattle.command_line.specs.declared.line.Line.{Line}
+use Rattle.command_run.specs.CommandRun.{Draws, EndsAsked, EndsDrawn, RunsLine, TellsEnded, WithFile, WithHint}
 use Rattle.command_run.specs.declared.asked_file.AskedFile.{AskedFile}
 use Rattle.command_run.specs.declared.asked_file.AskedFile.TheVariants.{Made, Nowhere}
 use Rattle.command_run.specs.declared.asked_text.AskedText.{AskedText}
@@ -67,6 +69,19 @@ module _ {H I O : Type 0} (calls : HostCalls H I O) where
     with_file from made done to None (Nowhere before) (Made after) outcome makes same does closes = absurd (some_is_none _ same)
     with_file from made done to (Some path) (Nowhere before) after outcome makes same does closes = absurd makes
     with_file from made done to None (Made before) after outcome makes same does closes = absurd makes
+
+  -- ---- what standard error takes
+
+  pub ends_asked : (read : SourceView I) (wrote : SinkView O) (explains : Bool) (line : Line) (out err : SinkRun) (outcome : Result Status Fault) (status : ℕ) (from to : H)
+      → RunsLine calls read wrote from line out outcome to → TellsEnded explains err outcome → status ≡ exit_status_of outcome
+      → EndsAsked explains calls read wrote from line out err status to
+  ends_asked read wrote true line out err outcome status from to runs tells status_is = record {
+    told = tells.told;
+    begins = tells.begins;
+    ends = record { outcome = outcome; runs = runs; tells = tells.tells; status_is = status_is };
+    adds = tells.adds;
+  }
+  ends_asked read wrote false line out err outcome status from to runs tells status_is = record { outcome = outcome; runs = runs; tells = tells; status_is = status_is }
 
   -- ---- the file of a picture
 

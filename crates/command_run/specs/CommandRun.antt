@@ -291,6 +291,18 @@ pub record EndsExplained {H I O : Type 0} (calls : HostCalls H I O) (read : Sour
   pub ends : EndsRun calls read wrote from line out told status to
   pub adds : Adds (after_run told err)
 
+-- standard error took the line of a refusal, and then an explanation
+pub record TellsExplained (err : SinkRun) (outcome : Result Status Fault) : Type 0 where
+  pub told : SinkRun
+  pub begins : BeginsWith err told
+  pub tells : TellsOutcome told outcome
+  pub adds : Adds (after_run told err)
+
+-- it took the line of a refusal, with an explanation or without
+abbrev pub TellsEnded : Bool → SinkRun → Result Status Fault → Type 0
+TellsEnded true err outcome = TellsExplained err outcome
+TellsEnded false err outcome = TellsOutcome err outcome
+
 -- the line was run, and its outcome was explained or not
 abbrev pub EndsAsked : {H I O : Type 0} → Bool → HostCalls H I O → SourceView I → SinkView O → H → Line → (out err : SinkRun) → ℕ → H → Type 0
 EndsAsked true calls read wrote from line out err status to = EndsExplained calls read wrote from line out err status to

@@ -9,3 +9,4 @@ pub mod FormedRuns
 pub mod Inputs
 pub mod ReadFiles
 pub mod Spelling
+pub mod TextEngines

@@ -238,14 +238,7 @@ fn clash_of_picture<'p, H: Host<'p>>(
         Line::Survey { trace, files, .. } => clash_with_survey(
             host, found, picture, *trace, *files,
         ),
-        Line::Judge { .. } => found,
-        Line::Cnf { .. } => found,
-        Line::Decode { .. } => found,
-        Line::Lrat { .. } => found,
-        Line::Recheck { .. } => found,
-        Line::Part { .. } => found,
-        Line::Refusals => found,
-        Line::Batch { .. } => found,
+        _ => found,
     }
 }
 
@@ -308,15 +301,7 @@ fn clash_of_batch<'p, H: Host<'p>>(
 {
     match line {
         Line::Batch { output, .. } => or_output(host, found, *output),
-        Line::Verify { .. } => found,
-        Line::Survey { .. } => found,
-        Line::Judge { .. } => found,
-        Line::Cnf { .. } => found,
-        Line::Decode { .. } => found,
-        Line::Lrat { .. } => found,
-        Line::Recheck { .. } => found,
-        Line::Part { .. } => found,
-        Line::Refusals => found,
+        _ => found,
     }
 }
 

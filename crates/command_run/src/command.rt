@@ -2,7 +2,7 @@
 ghost use Rattle.clap.specs.Walk.{texts};
 ghost use Rattle.command_host.specs.Streams.{sink_view, source_view};
 ghost use Rattle.command_line.specs.CommandLine.{IsWithinRanges, is_explained};
-ghost use Rattle.command_run.specs.CommandRun.{EndsAsked, EndsDrawn, EndsWords, ExplainsFault, ReportsFault};
+ghost use Rattle.command_run.specs.CommandRun.{EndsDrawn, EndsWords, ExplainsFault, ReportsFault};
 ghost use Rattle.command_run.specs.ExitStatus.{IsExitStatus};
 ghost use Rattle.verdict_report.specs.declared.fault.Fault.TheVariants.{Device};
 ghost use Rattle.verdict_report.specs.Runs.{sink_run};
@@ -10,11 +10,11 @@ ghost use Rattle.verdict_report.specs.Runs.{sink_run};
 use crate::asked_file::{close_asked, make_asked};
 use crate::clash::{clash_of, print_clash};
 use crate::engine_runs::run_engine;
-use crate::explaining::{EndedLine, explain_outcome, explain_unmade};
+use crate::explaining::{EndedLine, explain_unmade, tell_ended};
 use crate::kept_run::KeptRun;
 use crate::picturing::draw_outcome;
 use crate::program_run::ProgramRun;
-use crate::telling::{DEVICE, tell_fault, tell_line_fault, tell_outcome};
+use crate::telling::{DEVICE, tell_fault, tell_line_fault};
 use command_host::{FailedFile, Host, Recalls};
 use command_line::{CommandLine, Explains, read_line};
 use cube_jobs::Gate;
@@ -23,36 +23,6 @@ use std::alloc::Global;
 use std::sync::Wait;
 use std::thread::Threads;
 use verdict_report::{Fault, exit_status};
-
-/// Runs the engine of the line, reports a refusal on standard error, and explains the outcome there if that is asked for.
-fn run_asked<'p, R: Threads + Wait + Sync, G: Gate + Sync, H: Host<'p>, O: Sink + Recalls, E: Sink>(
-    program: &ProgramRun<'_, R, G>,
-    host: &mut H,
-    asked: &CommandLine<'p>,
-    out: &mut O,
-    err: &mut E,
-    kept: &mut KeptRun,
-) -> u8
-    requires { IsWithinRanges asked.now.line }
-    ensures ends { EndsAsked (is_explained program.now.is_terminal asked.now.explains) H.calls (source_view H.Input.handed_out H.Input.is_at_end H.Input.failures H.Input.path)
-        (sink_view H.Output.written H.Output.failures H.Output.path)
-        host.old asked.now.line
-        (sink_run O.written O.failures out.old out.new)
-        (sink_run E.written E.failures err.old err.new)
-        result host.new }
-    ensures known { IsExitStatus result }
-{
-    let outcome = run_engine(program, host, &asked.line, out, kept);
-    tell_outcome(&outcome, err);
-    if asked.explains.is_wanted(program.is_terminal) {
-        let ended = EndedLine {
-            line: &asked.line,
-            outcome: &outcome,
-        };
-        explain_outcome(program.alloc, host.failed_file(), ended, out, kept, err);
-    }
-    exit_status(&outcome)
-}
 
 /// Reports on standard error that a file could not be made, and explains it.
 fn explain_without_file<E: Sink>(alloc: Global, failed: Option<FailedFile<'_>>, err: &mut E)
@@ -79,7 +49,8 @@ fn report_without_file<E: Sink>(
     }
 }
 
-/// Runs the engine of the line, and draws a picture if there is a path for one. Its file is made or opened first.
+/// Runs the engine of the line, reports a refusal on standard error and explains the outcome there if that is asked for, and draws a picture if there is
+/// a path for one. Its file is made or opened first.
 fn run_drawn<'p, R: Threads + Wait + Sync, G: Gate + Sync, H: Host<'p>, O: Sink + Recalls, E: Sink>(
     program: &ProgramRun<'_, R, G>,
     host: &mut H,
@@ -102,10 +73,18 @@ fn run_drawn<'p, R: Threads + Wait + Sync, G: Gate + Sync, H: Host<'p>, O: Sink 
         report_without_file(alloc, host.failed_file(), asked.explains, is_terminal, err);
         return DEVICE;
     };
+    let explains = asked.explains.is_wanted(is_terminal);
     // Texts are kept only if something is made of them after the run: a picture or an explanation.
     let is_drawn = asked.picture.is_some();
-    let mut kept = KeptRun::new(is_drawn || asked.explains.is_wanted(is_terminal));
-    let status = run_asked(program, host, asked, out, err, &mut kept);
+    let mut kept = KeptRun::new(is_drawn || explains);
+    let outcome = run_engine(program, host, &asked.line, out, &mut kept);
+    let ended = EndedLine {
+        line: &asked.line,
+        outcome: &outcome,
+        explains,
+    };
+    tell_ended(alloc, host.failed_file(), ended, out, &kept, err);
+    let status = exit_status(&outcome);
     // This comes after the explanation, and what fails of it changes neither that nor the status.
     draw_outcome(alloc, &asked.line, status, is_drawn, &kept, &mut file);
     close_asked(host, file);

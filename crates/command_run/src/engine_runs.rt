@@ -3,13 +3,9 @@ ghost use Rattle.std.specs.Prelude.{◌≤◌};
 ghost use Rattle.command_host.specs.Streams.{sink_view, source_view};
 ghost use Rattle.command_line.specs.CommandLine.{IsWithinRanges};
 ghost use Rattle.command_run.specs.CommandRun.{RunsCertified, RunsLine, RunsOnFile, RunsOnFiles, RunsOnThreeFiles, RunsSearch};
-ghost use Rattle.part_report.specs.PartEngine.{IsRunOfPart};
+ghost use Rattle.command_run.specs.TextEngines.{IsRunOfTexts};
 ghost use Rattle.part_report.specs.PartRecheckEngine.{IsRunOfPartRecheck};
 ghost use Rattle.verdict_report.specs.CnfEngine.{IsRunOfCnf};
-ghost use Rattle.verdict_report.specs.DecodeEngine.{IsRunOfDecode};
-ghost use Rattle.verdict_report.specs.JudgeEngine.{IsRunOfJudge};
-ghost use Rattle.verdict_report.specs.LratEngine.{IsRunOfLrat};
-ghost use Rattle.verdict_report.specs.RecheckEngine.{IsRunOfRecheck};
 ghost use Rattle.verdict_report.specs.Runs.{sink_run};
 
 use crate::asked_gate::AskedGate;
@@ -21,18 +17,16 @@ use crate::program_run::ProgramRun;
 use crate::refusals::write_refusals;
 use crate::search_runs::{search_of, survey_of};
 use crate::survey_runs::{SurveyPaths, survey_file};
+use crate::text_engines::{TwoTextEngine, run_on_texts};
 use command_host::{Host, Recorder, SearchRequest};
 use command_line::Line;
 use cube_jobs::{Gate, SearchRun};
 use dimacs::Sink;
-use part_report::{run_part, run_part_recheck};
+use part_report::run_part_recheck;
 use std::alloc::Global;
 use std::sync::Wait;
 use std::thread::Threads;
-use verdict_report::{
-    Fault, Status, run_certified_verify, run_cnf, run_decode, run_judge, run_lrat, run_recheck,
-    run_verify,
-};
+use verdict_report::{Fault, Status, run_certified_verify, run_cnf, run_verify};
 
 /// The files of a certificate that is checked for a part.
 #[derive(Clone, Copy)]
@@ -42,11 +36,11 @@ struct PartCertificatePaths<'p> {
     names: &'p str,
 }
 
-/// The files of a part.
+/// The files of two texts, in the order in which they are read.
 #[derive(Clone, Copy)]
-struct PartPaths<'p> {
-    trace: &'p str,
-    names: &'p str,
+struct TextPaths<'p> {
+    first: &'p str,
+    second: &'p str,
 }
 
 /// The files of a search with a certificate.
@@ -56,23 +50,23 @@ struct CertifyPaths<'p> {
     cert: &'p str,
 }
 
-/// Judges the files at these paths, and writes the answer to the standard output.
-fn judge_files<'p, H: Host<'p>, W: Sink>(
+/// Runs the engine on the files at these paths, and writes its answer to the standard output.
+fn run_on_files<'p, H: Host<'p>, W: Sink>(
     alloc: Global,
     host: &mut H,
-    trace: &'p str,
-    schedule: &'p str,
+    engine: TwoTextEngine,
+    paths: TextPaths<'p>,
     out: &mut W,
     kept: &mut KeptRun,
 ) -> Result<Status, Fault>
-    ensures { RunsOnFiles H.calls (source_view H.Input.handed_out H.Input.is_at_end H.Input.failures H.Input.path) IsRunOfJudge
-        host.old trace.now schedule.now (sink_run W.written W.failures out.old out.new) result host.new }
+    ensures { RunsOnFiles H.calls (source_view H.Input.handed_out H.Input.is_at_end H.Input.failures H.Input.path) (IsRunOfTexts engine)
+        host.old paths.entry.first.now paths.entry.second.now (sink_run W.written W.failures out.old out.new) result host.new }
 {
-    let mut trace = open(alloc, host, trace, kept.keeps);
-    let mut schedule = open(alloc, host, schedule, kept.keeps);
-    let outcome = run_judge(alloc, &mut trace, &mut schedule, out);
-    kept.first = trace.into_text();
-    kept.second = schedule.into_text();
+    let mut first = open(alloc, host, paths.first, kept.keeps);
+    let mut second = open(alloc, host, paths.second, kept.keeps);
+    let outcome = run_on_texts(alloc, engine, &mut first, &mut second, out);
+    kept.first = first.into_text();
+    kept.second = second.into_text();
     outcome
 }
 
@@ -97,66 +91,6 @@ fn translate_file<'p, R: Threads + Sync, G, H: Host<'p>, W: Sink>(
     outcome
 }
 
-/// Writes the schedule of the trace in one file by the model in the other to the standard output.
-fn decode_files<'p, H: Host<'p>, W: Sink>(
-    alloc: Global,
-    host: &mut H,
-    trace: &'p str,
-    model: &'p str,
-    out: &mut W,
-    kept: &mut KeptRun,
-) -> Result<Status, Fault>
-    ensures { RunsOnFiles H.calls (source_view H.Input.handed_out H.Input.is_at_end H.Input.failures H.Input.path) IsRunOfDecode
-        host.old trace.now model.now (sink_run W.written W.failures out.old out.new) result host.new }
-{
-    let mut trace = open(alloc, host, trace, kept.keeps);
-    let mut model = open(alloc, host, model, kept.keeps);
-    let outcome = run_decode(alloc, &mut trace, &mut model, out);
-    kept.first = trace.into_text();
-    kept.second = model.into_text();
-    outcome
-}
-
-/// Checks the proof in one file for the formula in the other, and writes the answer to the standard output.
-fn check_files<'p, H: Host<'p>, W: Sink>(
-    alloc: Global,
-    host: &mut H,
-    cnf: &'p str,
-    proof: &'p str,
-    out: &mut W,
-    kept: &mut KeptRun,
-) -> Result<Status, Fault>
-    ensures { RunsOnFiles H.calls (source_view H.Input.handed_out H.Input.is_at_end H.Input.failures H.Input.path) IsRunOfLrat
-        host.old cnf.now proof.now (sink_run W.written W.failures out.old out.new) result host.new }
-{
-    let mut cnf = open(alloc, host, cnf, kept.keeps);
-    let mut proof = open(alloc, host, proof, kept.keeps);
-    let outcome = run_lrat(alloc, &mut cnf, &mut proof, out);
-    kept.first = cnf.into_text();
-    kept.second = proof.into_text();
-    outcome
-}
-
-/// Checks the certificate in one file for the trace in the other, and writes the answer to the standard output.
-fn recheck_files<'p, H: Host<'p>, W: Sink>(
-    alloc: Global,
-    host: &mut H,
-    trace: &'p str,
-    cert: &'p str,
-    out: &mut W,
-    kept: &mut KeptRun,
-) -> Result<Status, Fault>
-    ensures { RunsOnFiles H.calls (source_view H.Input.handed_out H.Input.is_at_end H.Input.failures H.Input.path) IsRunOfRecheck
-        host.old trace.now cert.now (sink_run W.written W.failures out.old out.new) result host.new }
-{
-    let mut trace = open(alloc, host, trace, kept.keeps);
-    let mut cert = open(alloc, host, cert, kept.keeps);
-    let outcome = run_recheck(alloc, &mut trace, &mut cert, out);
-    kept.first = trace.into_text();
-    kept.second = cert.into_text();
-    outcome
-}
-
 /// Checks the certificate in one file for a part of the trace in another, which the operations make up that a third names, and writes the
 /// answer to the standard output.
 fn recheck_part_files<'p, H: Host<'p>, W: Sink>(
@@ -176,26 +110,6 @@ fn recheck_part_files<'p, H: Host<'p>, W: Sink>(
     kept.first = trace.into_text();
     kept.second = cert.into_text();
     kept.third = names.into_text();
-    outcome
-}
-
-/// Writes the part of the trace in one file that the operations make up which the other names to the standard output.
-fn part_files<'p, H: Host<'p>, W: Sink>(
-    alloc: Global,
-    host: &mut H,
-    paths: PartPaths<'p>,
-    shows_names: bool,
-    out: &mut W,
-    kept: &mut KeptRun,
-) -> Result<Status, Fault>
-    ensures { RunsOnFiles H.calls (source_view H.Input.handed_out H.Input.is_at_end H.Input.failures H.Input.path) (IsRunOfPart shows_names)
-        host.old paths.entry.trace.now paths.entry.names.now (sink_run W.written W.failures out.old out.new) result host.new }
-{
-    let mut trace = open(alloc, host, paths.trace, kept.keeps);
-    let mut names = open(alloc, host, paths.names, kept.keeps);
-    let outcome = run_part(alloc, &mut trace, &mut names, shows_names, out);
-    kept.first = trace.into_text();
-    kept.second = names.into_text();
     outcome
 }
 
@@ -257,7 +171,7 @@ fn certify_file<'p, R: Threads + Wait + Sync, G: Gate + Sync, H: Host<'p>, W: Si
 
 /// Runs the engine that the line names. What is kept of the run goes to `kept`.
 ///
-/// A command is added here by a function as [`judge_files`] and an arm for its line, and in `specs/CommandRun.antt` by a line of
+/// A command is added here by an arm for its line, which calls a function as [`run_on_files`], and in `specs/CommandRun.antt` by a line of
 /// `RunsLine`.
 pub(crate) fn run_engine<'p, R: Threads + Wait + Sync, G: Gate + Sync, H: Host<'p>, W: Sink>(
     run: &ProgramRun<'_, R, G>,
@@ -272,12 +186,28 @@ pub(crate) fn run_engine<'p, R: Threads + Wait + Sync, G: Gate + Sync, H: Host<'
         host.old line.now (sink_run W.written W.failures out.old out.new) result host.new }
 {
     match line {
-        Line::Judge { trace, schedule } => judge_files(
-            run.alloc, host, *trace, *schedule, out, kept,
-        ),
+        Line::Judge { trace, schedule } => {
+            let paths = TextPaths {
+                first: *trace,
+                second: *schedule,
+            };
+            run_on_files(run.alloc, host, TwoTextEngine::Judge, paths, out, kept)
+        }
         Line::Cnf { trace, workers } => translate_file(run, host, *trace, *workers, out, kept),
-        Line::Decode { trace, model } => decode_files(run.alloc, host, *trace, *model, out, kept),
-        Line::Lrat { cnf, proof } => check_files(run.alloc, host, *cnf, *proof, out, kept),
+        Line::Decode { trace, model } => {
+            let paths = TextPaths {
+                first: *trace,
+                second: *model,
+            };
+            run_on_files(run.alloc, host, TwoTextEngine::Decode, paths, out, kept)
+        }
+        Line::Lrat { cnf, proof } => {
+            let paths = TextPaths {
+                first: *cnf,
+                second: *proof,
+            };
+            run_on_files(run.alloc, host, TwoTextEngine::Lrat, paths, out, kept)
+        }
         Line::Recheck { trace, cert, part } => match *part {
             Some(names) => {
                 let paths = PartCertificatePaths {
@@ -287,18 +217,27 @@ pub(crate) fn run_engine<'p, R: Threads + Wait + Sync, G: Gate + Sync, H: Host<'
                 };
                 recheck_part_files(run.alloc, host, paths, out, kept)
             }
-            None => recheck_files(run.alloc, host, *trace, *cert, out, kept),
+            None => {
+                let paths = TextPaths {
+                    first: *trace,
+                    second: *cert,
+                };
+                run_on_files(run.alloc, host, TwoTextEngine::Recheck, paths, out, kept)
+            }
         },
         Line::Part {
             trace,
             names,
             shows_names,
         } => {
-            let paths = PartPaths {
-                trace: *trace,
-                names: *names,
+            let engine = TwoTextEngine::Part {
+                shows_names: *shows_names,
             };
-            part_files(run.alloc, host, paths, *shows_names, out, kept)
+            let paths = TextPaths {
+                first: *trace,
+                second: *names,
+            };
+            run_on_files(run.alloc, host, engine, paths, out, kept)
         }
         Line::Verify {
             trace,

@@ -1,8 +1,9 @@
 //! The explanation of an answer or a refusal.
-ghost use Rattle.command_run.specs.CommandRun.{Adds, Takes};
+ghost use Rattle.command_run.specs.CommandRun.{Adds, Takes, TellsEnded};
 ghost use Rattle.verdict_report.specs.Runs.{sink_run};
 
 use crate::kept_run::KeptRun;
+use crate::telling::tell_outcome;
 use command_host::{DeviceFailure, FailedFile, KeptText, Recalls};
 use command_line::{Line, SearchNumbers};
 use dimacs::{Sink, write_whole};
@@ -11,13 +12,15 @@ use note_text::{NamedText, Notes};
 use std::alloc::Global;
 use verdict_report::{Fault, Status};
 
-/// A line, and how its run ended.
+/// A line, how its run ended, and whether that is explained.
 #[derive(Clone, Copy)]
 pub(crate) struct EndedLine<'a, 'p> {
     /// The line.
     pub(crate) line: &'a Line<'p>,
     /// The outcome of its engine.
     pub(crate) outcome: &'a Result<Status, Fault>,
+    /// Whether an explanation is asked for.
+    pub(crate) explains: bool,
 }
 
 /// A text that a line reads: its bytes if they were kept, and what failed, in words without the name of its file, which notes add.
@@ -220,8 +223,8 @@ fn notes_of_run<O: Recalls>(
     notes_of(alloc, asked, ended.outcome, &written)
 }
 
-/// Explains the outcome on standard error.
-pub(crate) fn explain_outcome<O: Recalls, E: Sink>(
+/// Reports a refusal on standard error, and explains the outcome there if that is asked for.
+pub(crate) fn tell_ended<O: Recalls, E: Sink>(
     alloc: Global,
     failed: Option<FailedFile<'_>>,
     ended: EndedLine<'_, '_>,
@@ -229,10 +232,13 @@ pub(crate) fn explain_outcome<O: Recalls, E: Sink>(
     kept: &KeptRun,
     err: &mut E,
 )
-    ensures { Adds (sink_run E.written E.failures err.old err.new) }
+    ensures { TellsEnded ended.entry.explains (sink_run E.written E.failures err.old err.new) ended.entry.outcome.now }
 {
-    let notes = notes_of_run(alloc, failed, ended, out, kept);
-    write_notes(notes.as_slice(), err);
+    tell_outcome(ended.outcome, err);
+    if ended.explains {
+        let notes = notes_of_run(alloc, failed, ended, out, kept);
+        write_notes(notes.as_slice(), err);
+    }
 }
 
 /// The note on a file that could not be made, or no line if nothing is known of it.

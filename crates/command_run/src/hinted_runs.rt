@@ -6,13 +6,14 @@
 //! `KeptRun`, of which an explanation may be made after the run. By the report to the host the contract of a run says with which options it searched.
 ghost use Rattle.std.specs.Prelude.{◌≡◌};
 ghost use Rattle.command_host.specs.Streams.{source_view};
-ghost use Rattle.command_run.specs.CommandRun.{CertifiesHinted, SurveysHinted};
-ghost use Rattle.verdict_report.specs.Runs.{source_run, sink_run};
+ghost use Rattle.command_run.specs.CommandRun.{CertifiesSurveyed, RunsSurveyed};
+ghost use Rattle.verdict_report.specs.Runs.{sink_run};
 
 use crate::asked_gate::AskedGate;
 use crate::asked_text::open_asked;
 use crate::inputs::SurveyInputs;
 use crate::kept_run::KeptRun;
+use crate::opening::open;
 use crate::program_run::ProgramRun;
 use command_host::{Host, SearchRequest};
 use command_line::SurveyFiles;
@@ -22,7 +23,7 @@ use std::sync::Wait;
 use std::thread::Threads;
 use survey::BySaturation;
 use survey_report::{CoreSinks, run_certified_survey, run_survey};
-use verdict_report::{Fault, Source, Status};
+use verdict_report::{Fault, Status};
 
 /// What a survey is asked for, and does not change.
 #[derive(Drop)]
@@ -44,49 +45,49 @@ fn surveyor_of(search: &SearchRequest) -> BySaturation {
     }
 }
 
-/// Reports the survey to the host, and runs the engine that decides long traces with it, with the hint in a file if there is a path for it.
-pub(crate) fn survey_with<
-    'p,
-    R: Threads + Wait + Sync,
-    G: Gate + Sync,
-    H: Host<'p>,
-    T: Source,
-    W: Sink,
->(
-    asked: &AskedSurvey<'_, 'p, R, G>,
-    host: &mut H,
-    trace: &mut T,
-    out: &mut W,
-    kept: &mut KeptRun,
-) -> Result<Status, Fault>
-    ensures surveys { SurveysHinted H.calls (source_view H.Input.handed_out H.Input.is_at_end H.Input.failures H.Input.path)
-        host.old (source_run T.handed_out T.is_at_end T.failures trace.old trace.new) asked.now.inputs.hint asked.now.search.now
-        (sink_run W.written W.failures out.old out.new) result host.new }
-    ensures same_trace { T.path trace.new ≡ T.path trace.old }
+/// Gives what the engine of a survey is given, with this gate.
+fn survey_run<'a, R, G>(
+    asked: &'a AskedSurvey<'a, '_, R, G>,
+    gate: &'a AskedGate<'a, G>,
+) -> SearchRun<'a, R, AskedGate<'a, G>>
+    ensures { result.options.now ≡ asked.now.search.now.options }
 {
-    let mut hint = open_asked(asked.run.alloc, host, asked.inputs.hint, kept.keeps);
-    host.begin_search(asked.search);
-    let surveyor = surveyor_of(asked.search);
-    let gate = AskedGate::new(asked.run.progress, asked.search.tells_progress);
-    let run = SearchRun {
+    SearchRun {
         alloc: asked.run.alloc,
         rt: asked.run.rt,
         options: &asked.search.options,
-        gate: &gate,
-    };
-    let outcome = run_survey(&run, &surveyor, trace, &mut hint, out);
-    // The trace is the first text, which the caller keeps.
+        gate,
+    }
+}
+
+/// Opens the trace, and the hint if there is a path for it, reports the survey to the host, and runs the engine that decides long traces with it. It
+/// writes the report to the standard output.
+pub(crate) fn survey_opened<'p, R: Threads + Wait + Sync, G: Gate + Sync, H: Host<'p>, W: Sink>(
+    asked: &AskedSurvey<'_, 'p, R, G>,
+    host: &mut H,
+    out: &mut W,
+    kept: &mut KeptRun,
+) -> Result<Status, Fault>
+    ensures { RunsSurveyed H.calls (source_view H.Input.handed_out H.Input.is_at_end H.Input.failures H.Input.path)
+        host.old asked.now.inputs asked.now.search.now (sink_run W.written W.failures out.old out.new) result host.new }
+{
+    let mut trace = open(asked.run.alloc, host, asked.inputs.trace, kept.keeps);
+    let mut hint = open_asked(asked.run.alloc, host, asked.inputs.hint, kept.keeps);
+    host.begin_search(asked.search);
+    let gate = AskedGate::new(asked.run.progress, asked.search.tells_progress);
+    let run = survey_run(asked, &gate);
+    let outcome = run_survey(&run, &surveyor_of(asked.search), &mut trace, &mut hint, out);
+    kept.first = trace.into_text();
     kept.second = hint.into_text();
     outcome
 }
 
-/// Does so with a certificate, the names of a core, and its part.
-pub(crate) fn certify_with<
+/// Does so with sinks for the certificate, the names of a core, and its part.
+pub(crate) fn certify_opened<
     'p,
     R: Threads + Wait + Sync,
     G: Gate + Sync,
     H: Host<'p>,
-    T: Source,
     C: Sink,
     N: Sink,
     P: Sink,
@@ -94,34 +95,35 @@ pub(crate) fn certify_with<
 >(
     asked: &AskedSurvey<'_, 'p, R, G>,
     host: &mut H,
-    trace: &mut T,
     sinks: &mut CoreSinks<C, N, P>,
     out: &mut W,
     kept: &mut KeptRun,
 ) -> Result<Status, Fault>
-    ensures certifies { CertifiesHinted H.calls (source_view H.Input.handed_out H.Input.is_at_end H.Input.failures H.Input.path)
-        host.old (source_run T.handed_out T.is_at_end T.failures trace.old trace.new) asked.now.inputs.hint asked.now.search.now
+    ensures runs { CertifiesSurveyed H.calls (source_view H.Input.handed_out H.Input.is_at_end H.Input.failures H.Input.path)
+        host.old asked.now.inputs asked.now.search.now
         (sink_run C.written C.failures sinks.old.cert sinks.new.cert)
         (sink_run N.written N.failures sinks.old.names sinks.new.names)
         (sink_run P.written P.failures sinks.old.part sinks.new.part)
         (sink_run W.written W.failures out.old out.new)
         result host.new }
-    ensures same_trace { T.path trace.new ≡ T.path trace.old }
     ensures same_cert { C.path sinks.new.cert ≡ C.path sinks.old.cert }
     ensures same_names { N.path sinks.new.names ≡ N.path sinks.old.names }
     ensures same_part { P.path sinks.new.part ≡ P.path sinks.old.part }
 {
+    let mut trace = open(asked.run.alloc, host, asked.inputs.trace, kept.keeps);
     let mut hint = open_asked(asked.run.alloc, host, asked.inputs.hint, kept.keeps);
     host.begin_search(asked.search);
-    let surveyor = surveyor_of(asked.search);
     let gate = AskedGate::new(asked.run.progress, asked.search.tells_progress);
-    let run = SearchRun {
-        alloc: asked.run.alloc,
-        rt: asked.run.rt,
-        options: &asked.search.options,
-        gate: &gate,
-    };
-    let outcome = run_certified_survey(&run, &surveyor, trace, &mut hint, sinks, out);
+    let run = survey_run(asked, &gate);
+    let outcome = run_certified_survey(
+        &run,
+        &surveyor_of(asked.search),
+        &mut trace,
+        &mut hint,
+        sinks,
+        out,
+    );
+    kept.first = trace.into_text();
     kept.second = hint.into_text();
     outcome
 }

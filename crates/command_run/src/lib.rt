@@ -22,6 +22,7 @@ mod refusals;
 mod search_runs;
 mod survey_runs;
 mod telling;
+mod text_engines;
 
 pub use arguments::{ArgumentFault, refuse, words_of};
 pub use clash::Clash;

@@ -6,14 +6,13 @@
 //! What is kept of the trace's text goes into `KeptRun` whatever the outcome is: after the run an explanation or a picture may be made of it.
 ghost use Rattle.std.specs.Prelude.{◌≡◌};
 ghost use Rattle.command_host.specs.Streams.{sink_view, source_view};
-ghost use Rattle.command_run.specs.CommandRun.{CertifiesSurveyed, RunsSurvey, RunsSurveyed, TakesCore, TakesNamesAndPart, TakesPart, inputs_of_survey, takes_none};
+ghost use Rattle.command_run.specs.CommandRun.{RunsSurvey, TakesCore, TakesNamesAndPart, TakesPart, inputs_of_survey, takes_none};
 ghost use Rattle.verdict_report.specs.Runs.{sink_run};
 
 use crate::asked_file::{close_asked, make_asked};
-use crate::hinted_runs::{AskedSurvey, certify_with, survey_with};
+use crate::hinted_runs::{AskedSurvey, certify_opened, survey_opened};
 use crate::inputs::SurveyInputs;
 use crate::kept_run::KeptRun;
-use crate::opening::open;
 use crate::program_run::ProgramRun;
 use command_host::{Host, SearchRequest};
 use command_line::SurveyFiles;
@@ -31,56 +30,6 @@ pub(crate) struct SurveyPaths<'p> {
     pub(crate) trace: &'p str,
     /// The others.
     pub(crate) files: SurveyFiles<'p>,
-}
-
-/// Decides whether the trace in the file at this path has a legal schedule, and writes the report to the standard output.
-fn survey_opened<'p, R: Threads + Wait + Sync, G: Gate + Sync, H: Host<'p>, W: Sink>(
-    asked: &AskedSurvey<'_, 'p, R, G>,
-    host: &mut H,
-    out: &mut W,
-    kept: &mut KeptRun,
-) -> Result<Status, Fault>
-    ensures { RunsSurveyed H.calls (source_view H.Input.handed_out H.Input.is_at_end H.Input.failures H.Input.path)
-        host.old asked.now.inputs asked.now.search.now (sink_run W.written W.failures out.old out.new) result host.new }
-{
-    let mut trace = open(asked.run.alloc, host, asked.inputs.trace, kept.keeps);
-    let outcome = survey_with(asked, host, &mut trace, out, kept);
-    kept.first = trace.into_text();
-    outcome
-}
-
-/// Does so with sinks for the certificate, the names and the part.
-fn certify_opened<
-    'p,
-    R: Threads + Wait + Sync,
-    G: Gate + Sync,
-    H: Host<'p>,
-    C: Sink,
-    N: Sink,
-    P: Sink,
-    W: Sink,
->(
-    asked: &AskedSurvey<'_, 'p, R, G>,
-    host: &mut H,
-    sinks: &mut CoreSinks<C, N, P>,
-    out: &mut W,
-    kept: &mut KeptRun,
-) -> Result<Status, Fault>
-    ensures runs { CertifiesSurveyed H.calls (source_view H.Input.handed_out H.Input.is_at_end H.Input.failures H.Input.path)
-        host.old asked.now.inputs asked.now.search.now
-        (sink_run C.written C.failures sinks.old.cert sinks.new.cert)
-        (sink_run N.written N.failures sinks.old.names sinks.new.names)
-        (sink_run P.written P.failures sinks.old.part sinks.new.part)
-        (sink_run W.written W.failures out.old out.new)
-        result host.new }
-    ensures same_cert { C.path sinks.new.cert ≡ C.path sinks.old.cert }
-    ensures same_names { N.path sinks.new.names ≡ N.path sinks.old.names }
-    ensures same_part { P.path sinks.new.part ≡ P.path sinks.old.part }
-{
-    let mut trace = open(asked.run.alloc, host, asked.inputs.trace, kept.keeps);
-    let outcome = certify_with(asked, host, &mut trace, sinks, out, kept);
-    kept.first = trace.into_text();
-    outcome
 }
 
 /// Does so with two sinks, and a file for the part if there is a path for it. It is made or opened first, and `Device` is answered if that is not

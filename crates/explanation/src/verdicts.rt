@@ -314,7 +314,8 @@ fn explain_finding(
     }
 }
 
-/// Notes the lines of a certificate of reasons, if a short survey finds one. The answer is whether it does: that of the report is not at hand.
+/// Notes the lines of a certificate of reasons, if a short survey without hints finds one that is short enough. The answer is whether it does: that of the report
+/// is not at hand. A survey gives two findings where it has both reasons and a core, in the order in which they are to be asked.
 fn explain_found_lines(
     alloc: Global,
     notes: &mut Notes,

@@ -257,7 +257,7 @@ impl<'a> Propagation<'a> {
         self.budget
     }
 
-    /// Sets the rest of the budget.
+    /// Sets the rest of the budget. A caller that lends a part of it for a while keeps the rest, and sets the sum of what is left of both afterwards.
     pub fn set_budget(&mut self, budget: Budget) {
         self.budget = budget;
     }

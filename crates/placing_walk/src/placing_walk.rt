@@ -204,7 +204,8 @@ impl PlacingWalk {
         }
     }
 
-    /// Returns what the process's next operation waits for.
+    /// Returns what the process's next operation waits for: the first that is found, since one is enough to keep it waiting, or `Never` if all its operations
+    /// are placed.
     pub(crate) fn awaited_by(&self, order: &Propagation<'_>, process: ProcessId) -> Awaited {
         let log = order.log();
         let front = self.memory.front(process);
@@ -223,6 +224,7 @@ impl PlacingWalk {
             return Awaited::Value(operation.location);
         }
         if operation.writes {
+            // Readers that have what the location holds as their only source: a write would come over it.
             let unread = self.memory.unread(operation.location);
             // An update that reads what is held is among the readers that have not come: it need not wait for itself.
             let is_counted = operation.reads && self.memory.source(number) != UNKNOWN_SOURCE;

@@ -13,7 +13,7 @@ pub struct ReaderClasses {
     readers: Vec<OperationId>,
 }
 
-/// The class that the operation reads, or none.
+/// The class that the operation reads. None if it reads nothing, or a value that no operation writes.
 fn class_read(log: &NumberedLog, classes: &ValueClasses, number: OperationId) -> ClassId {
     let operation = log.operation(number);
     if operation.reads {

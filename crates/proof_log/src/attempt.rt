@@ -128,7 +128,7 @@ impl<S: SharingLearner + Drop> Attempt<S> {
         self.search.take(clauses)
     }
 
-    /// Goes back to level 0, and returns whether `refute_by_chain` may find an answer there.
+    /// Returns whether `refute_by_chain` may find an answer at level 0. If so, the search stands there.
     pub fn is_refutable_at_root(&mut self) -> Result<bool, AllocError>
         ensures { OnOk result (self.new.log ≡ self.old.log) }
     {
@@ -136,7 +136,7 @@ impl<S: SharingLearner + Drop> Attempt<S> {
     }
 
     /// Returns an answer that takes no further conflict, if there is one at level 0: a derivation of at most `budget` steps, some of which may be additions of
-    /// this chain.
+    /// this chain. It is asked only after `is_refutable_at_root` has said yes.
     pub fn refute_by_chain(
         &mut self,
         chain: &LogChain,

@@ -52,10 +52,11 @@ pub trait SharingLearner: Learner {
     /// Backtracks to level 0, and adds these clauses, which follow from the formula. They have numbers of their own.
     fn take(&mut self, clauses: &SharedClauses) -> Result<(), AllocError>;
 
-    /// Backtracks to level 0, and answers whether `refute_by_chain` may find a derivation there.
+    /// Answers whether `refute_by_chain` may find a derivation at level 0. If so, the search stands there.
     fn is_refutable_at_root(&mut self) -> Result<bool, AllocError>;
 
-    /// Looks at level 0, where it stands, for a derivation of at most `budget` steps that takes no further conflict. The chain has what all have learned.
+    /// Looks at level 0 for a derivation of at most `budget` steps that takes no further conflict. The chain has what all have learned. It is asked only after
+    /// `is_refutable_at_root` has said yes.
     fn refute_by_chain(
         &mut self,
         chain: &LogChain,

@@ -3,7 +3,7 @@
 use crate::prepared_formula::PreparedFormula;
 use crate::schedule_heuristic::suits_a_schedule;
 use crate::search::Search;
-use crate::solving::{begin, search_begun, search_cube};
+use crate::solving::{CubeSearch, begin, search_cube};
 use crate::whole::{CubeRefutation, WholeRefutation};
 use assignment_trail::Activities;
 use dimacs::Lit;
@@ -115,14 +115,13 @@ impl<'a> PreparedFormula<'a> {
             return self.enter(cube, counted);
         }
         let mut first = Attempt::new(alloc, search, id);
-        let answer = search_begun(
+        let searched = CubeSearch {
             alloc,
-            self,
-            cube.as_slice(),
-            id,
-            &mut first,
-            FIRST_CUBE_CONFLICTS,
-        )?;
+            prepared: self,
+            cube: cube.as_slice(),
+            first_id: id,
+        };
+        let answer = searched.search_begun(&mut first, FIRST_CUBE_CONFLICTS)?;
         let is_refuted = self.enter(cube, answer)?;
         if is_refuted && first.log.additions() >= TELLING_CONFLICTS {
             let ended = Activities::after(
@@ -220,7 +219,13 @@ impl<'a> PreparedFormula<'a> {
             WHOLE_CONFLICTS
         };
         let mut first = Attempt::new(alloc, search, id);
-        let answer = search_begun(alloc, self, &[], id, &mut first, budget.min(most))?;
+        let searched = CubeSearch {
+            alloc,
+            prepared: self,
+            cube: &[],
+            first_id: id,
+        };
+        let answer = searched.search_begun(&mut first, budget.min(most))?;
         if self.know(splits.len(), answer) || takes_turns {
             return Ok(None);
         }

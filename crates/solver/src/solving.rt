@@ -34,68 +34,66 @@ pub(crate) fn begin<'a>(
     Ok(search)
 }
 
-/// Goes on with an attempt, and begins a second one on the other course, which takes its turns with the first. The conflicts of the second
-/// are counted. Each keeps to clauses of its own: shared ones spoiled both in a trial.
-fn search_by_two<'a>(
-    alloc: Global,
-    prepared: &PreparedFormula<'a>,
-    cube: &[Lit],
-    first_id: ClauseId,
-    first: &mut Attempt<Search<'a>>,
-    budget: u64,
-) -> Result<Answer, AllocError>
-    ensures { IfOk result (λ answer. IsWithin (first.old.log + budget) answer) }
-{
-    let mut other = begin(alloc, prepared, cube)?;
-    other.change_course()?;
-    let mut second = Attempt::new(alloc, other, first_id);
-    // The first has had a turn.
-    let found = take_turns(&mut second, first, budget);
-    prepared.add_conflicts(second.log.additions());
-    found
+/// What is searched: the prepared formula, in the cube of these literals. The first step of a derivation has this number.
+#[derive(Clone, Copy)]
+pub(crate) struct CubeSearch<'c, 'a> {
+    pub alloc: Global,
+    pub prepared: &'c PreparedFormula<'a>,
+    pub cube: &'c [Lit],
+    pub first_id: ClauseId,
 }
 
-/// Searches the cube by this attempt, which has begun and taken no turn. If there is another course, it is tried too, once the first turn was
-/// not enough.
-fn search_from<'a>(
-    alloc: Global,
-    prepared: &PreparedFormula<'a>,
-    cube: &[Lit],
-    first_id: ClauseId,
-    first: &mut Attempt<Search<'a>>,
-    budget: u64,
-) -> Result<Answer, AllocError>
-    ensures { IfOk result (λ answer. IsWithin (first.old.log + budget) answer) }
-{
-    let has_another_course = suits_a_schedule(&first.search().trail);
-    if !has_another_course {
-        return search_alone(first, budget);
+impl<'c, 'a> CubeSearch<'c, 'a> {
+    /// Goes on with an attempt, and begins a second one on the other course, which takes its turns with the first. The conflicts of the second
+    /// are counted. Each keeps to clauses of its own: shared ones spoiled both in a trial.
+    fn go_on_by_two(
+        self,
+        first: &mut Attempt<Search<'a>>,
+        budget: u64,
+    ) -> Result<Answer, AllocError>
+        ensures { IfOk result (λ answer. IsWithin (first.old.log + budget) answer) }
+    {
+        let mut other = begin(self.alloc, self.prepared, self.cube)?;
+        other.change_course()?;
+        let mut second = Attempt::new(self.alloc, other, self.first_id);
+        // The first has had a turn.
+        let found = take_turns(&mut second, first, budget);
+        self.prepared.add_conflicts(second.log.additions());
+        found
     }
-    let share = budget.min(TURN);
-    let left = budget - share;
-    if let Some(answer) = first.take_turn(share, left)? {
-        return Ok(answer);
-    }
-    if left == 0 {
-        return Ok(Answer::Open);
-    }
-    search_by_two(alloc, prepared, cube, first_id, first, left)
-}
 
-/// Searches the cube by this attempt, which has begun, counted and taken no turn. The conflicts are counted.
-pub(crate) fn search_begun<'a>(
-    alloc: Global,
-    prepared: &PreparedFormula<'a>,
-    cube: &[Lit],
-    first_id: ClauseId,
-    first: &mut Attempt<Search<'a>>,
-    budget: u64,
-) -> Result<Answer, AllocError>
-    ensures { IfOk result (λ answer. IsWithin (first.old.log + budget) answer) }
-{
-    let found = search_from(alloc, prepared, cube, first_id, first, budget);
-    prepared.add_conflicts(first.log.additions());
-    found
+    /// Searches the cube by this attempt, which has begun and taken no turn. If there is another course, it is tried too, once the first turn was
+    /// not enough.
+    fn search_from(self, first: &mut Attempt<Search<'a>>, budget: u64) -> Result<Answer, AllocError>
+        ensures { IfOk result (λ answer. IsWithin (first.old.log + budget) answer) }
+    {
+        let has_another_course = suits_a_schedule(&first.search().trail);
+        if !has_another_course {
+            return search_alone(first, budget);
+        }
+        let share = budget.min(TURN);
+        let left = budget - share;
+        if let Some(answer) = first.take_turn(share, left)? {
+            return Ok(answer);
+        }
+        if left == 0 {
+            return Ok(Answer::Open);
+        }
+        self.go_on_by_two(first, left)
+    }
+
+    /// Searches the cube by this attempt, which has begun, counted and taken no turn. The conflicts are counted.
+    pub(crate) fn search_begun(
+        self,
+        first: &mut Attempt<Search<'a>>,
+        budget: u64,
+    ) -> Result<Answer, AllocError>
+        ensures { IfOk result (λ answer. IsWithin (first.old.log + budget) answer) }
+    {
+        let found = self.search_from(first, budget);
+        self.prepared.add_conflicts(first.log.additions());
+        found
+    }
 }
 
 /// Searches the prepared formula in the cube of these literals: counts, and then takes turns. The first step of a derivation has this number.
@@ -114,7 +112,13 @@ pub(crate) fn search_cube(
         return Ok(counted);
     }
     let mut first = Attempt::new(alloc, search, first_id);
-    search_begun(alloc, prepared, cube, first_id, &mut first, budget)
+    let searched = CubeSearch {
+        alloc,
+        prepared,
+        cube,
+        first_id,
+    };
+    searched.search_begun(&mut first, budget)
 }
 
 /// Does what `solve` does, for one of many cubes of a formula that was prepared. If `count_whole` or `search_whole` has refuted the formula

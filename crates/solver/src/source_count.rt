@@ -63,7 +63,7 @@ impl<'a> Search<'a> {
         has_updates(self.encoding)
     }
 
-    /// Returns whether there is a Hall violator. Nothing must be decided. Mostly there is none, so a greedy matching is tried first.
+    /// Returns whether there is a Hall violator. It is asked at level 0. Mostly there is none, so a greedy matching is tried first.
     fn has_hall_violator(&self, reads_from: &ReadsFromTable) -> Result<bool, AllocError> {
         let known = known_order(self.encoding, &self.trail, reads_from);
         if has_enough_sources(self.alloc, &self.trail, reads_from, known)? {
@@ -99,7 +99,7 @@ impl<'a> Search<'a> {
         Ok(self.has_updates() && self.resume_at_root()?)
     }
 
-    /// Goes back to level 0, and returns whether there is a Hall violator.
+    /// Returns whether there is a Hall violator at level 0, to which it goes back if there is anything to count.
     pub(crate) fn lacks_sources(&mut self) -> Result<bool, AllocError> {
         if !self.goes_back_to_count()? {
             return Ok(false);

@@ -34,91 +34,87 @@ fn first_value(reads_from: &ReadsFromTable, reader: u32) -> u32 {
         .wrapping_add(reads_from.location(reader))
 }
 
-/// Returns the choice as an edge from its reader to a source, with the number of the first of its clauses in the formula, by which a derivation
-/// cites them. An edge that is excluded is made too, and flagged: the clause of its reader has its variable, and a derivation that cites that clause
-/// has to cite why the variable is false.
-fn source_of(
-    trail: &OrderedTrail<'_>,
-    reads_from: &ReadsFromTable,
-    places: &[u32],
-    choice: ReadsFromVariable,
-) -> Source {
-    let (source, place) = match choice.writer {
-        Some(writer) => (writer, Some(at(places, writer, 0))),
-        None => (first_value(reads_from, choice.reader), None),
-    };
-    Source {
-        source,
-        place,
-        variable: choice.variable,
-        first: choice.first,
-        is_excluded: is_excluded(trail, Variable::new(choice.variable)),
-    }
+/// What the sources of readers are looked up in: what is true, the reads-from variables, and the places of the events among the writers of their
+/// locations.
+#[derive(Clone, Copy)]
+struct ReadSources<'s, 'a> {
+    trail: &'s OrderedTrail<'a>,
+    reads_from: &'s ReadsFromTable,
+    places: &'s [u32],
 }
 
-/// Returns the last writer as a source of the final value.
-fn source_of_last(trail: &OrderedTrail<'_>, places: &[u32], last: LastWriter) -> Source {
-    Source {
-        source: last.writer,
-        place: Some(at(places, last.writer, 0)),
-        variable: last.variable,
-        first: last.first,
-        is_excluded: is_excluded(trail, Variable::new(last.variable)),
-    }
-}
-
-/// Adds the read-modify-writes.
-fn tell_updates(
-    trail: &OrderedTrail<'_>,
-    reads_from: &ReadsFromTable,
-    places: &[u32],
-    reads: &mut MatchingInstance,
-) -> Result<(), AllocError> {
-    // No element: choices of one reader stand one after the other, and the first one adds it.
-    let mut reader = reads_from.elements();
-    for choice in reads_from.choices() {
-        let Some(choice) = choice else {
-            continue;
+impl<'s, 'a> ReadSources<'s, 'a> {
+    /// Returns the choice as an edge from its reader to a source, with the number of the first of its clauses in the formula, by which a derivation
+    /// cites them. An edge that is excluded is made too, and flagged: the clause of its reader has its variable, and a derivation that cites that
+    /// clause has to cite why the variable is false.
+    fn source_of(self, choice: ReadsFromVariable) -> Source {
+        let (source, place) = match choice.writer {
+            Some(writer) => (writer, Some(at(self.places, writer, 0))),
+            None => (first_value(self.reads_from, choice.reader), None),
         };
-        if !reads_from.writes(choice.reader) {
-            continue;
+        Source {
+            source,
+            place,
+            variable: choice.variable,
+            first: choice.first,
+            is_excluded: is_excluded(self.trail, Variable::new(choice.variable)),
         }
-        if choice.reader != reader {
-            reader = choice.reader;
-            let update = Update {
-                operation: reader,
-                place: at(places, reader, 0),
-            };
-            reads.add_reader(Reader {
-                update: Some(update),
-                // The clause which says that one of its choices is made stands before those of its first choice.
-                clause: choice.first.wrapping_sub(1),
-            })?;
-        }
-        reads.add_choice(source_of(trail, reads_from, places, *choice))?;
     }
-    Ok(())
-}
 
-/// Adds the final values. Last writers of one location have the same clause, and no clause has the id 0.
-fn tell_finals(
-    trail: &OrderedTrail<'_>,
-    reads_from: &ReadsFromTable,
-    places: &[u32],
-    reads: &mut MatchingInstance,
-) -> Result<(), AllocError> {
-    let mut clause: u32 = 0;
-    for last in reads_from.last_writers() {
-        if last.clause != clause {
-            clause = last.clause;
-            reads.add_reader(Reader {
-                update: None,
-                clause,
-            })?;
+    /// Returns the last writer as a source of the final value.
+    fn source_of_last(self, last: LastWriter) -> Source {
+        Source {
+            source: last.writer,
+            place: Some(at(self.places, last.writer, 0)),
+            variable: last.variable,
+            first: last.first,
+            is_excluded: is_excluded(self.trail, Variable::new(last.variable)),
         }
-        reads.add_choice(source_of_last(trail, places, *last))?;
     }
-    Ok(())
+
+    /// Adds the read-modify-writes.
+    fn tell_updates(self, reads: &mut MatchingInstance) -> Result<(), AllocError> {
+        // No element: choices of one reader stand one after the other, and the first one adds it.
+        let mut reader = self.reads_from.elements();
+        for choice in self.reads_from.choices() {
+            let Some(choice) = choice else {
+                continue;
+            };
+            if !self.reads_from.writes(choice.reader) {
+                continue;
+            }
+            if choice.reader != reader {
+                reader = choice.reader;
+                let update = Update {
+                    operation: reader,
+                    place: at(self.places, reader, 0),
+                };
+                reads.add_reader(Reader {
+                    update: Some(update),
+                    // The clause which says that one of its choices is made stands before those of its first choice.
+                    clause: choice.first.wrapping_sub(1),
+                })?;
+            }
+            reads.add_choice(self.source_of(*choice))?;
+        }
+        Ok(())
+    }
+
+    /// Adds the final values. Last writers of one location have the same clause, and no clause has the id 0.
+    fn tell_finals(self, reads: &mut MatchingInstance) -> Result<(), AllocError> {
+        let mut clause: u32 = 0;
+        for last in self.reads_from.last_writers() {
+            if last.clause != clause {
+                clause = last.clause;
+                reads.add_reader(Reader {
+                    update: None,
+                    clause,
+                })?;
+            }
+            reads.add_choice(self.source_of_last(*last))?;
+        }
+        Ok(())
+    }
 }
 
 /// Returns the readers that need a source of their own, with all their edges, of which those that are excluded are flagged.
@@ -129,8 +125,13 @@ pub fn matching_instance(
 ) -> Result<MatchingInstance, AllocError> {
     let mut reads = MatchingInstance::new(alloc);
     let places = places_of(alloc, reads_from)?;
-    tell_updates(trail, reads_from, places.as_slice(), &mut reads)?;
-    tell_finals(trail, reads_from, places.as_slice(), &mut reads)?;
+    let sources = ReadSources {
+        trail,
+        reads_from,
+        places: places.as_slice(),
+    };
+    sources.tell_updates(&mut reads)?;
+    sources.tell_finals(&mut reads)?;
     Ok(reads)
 }
 

@@ -11,7 +11,7 @@ use total_tables::{at, put, size};
 ///
 /// Each update is matched with a free source, or with one that is freed along a short alternating path. If all of them are matched, in each
 /// location one more writer is free that may be the last, and no updates form a cycle of reads-from, then there is no contradiction.
-/// Longer paths are not tried: this runs after each turn of the search, where it spares the copy of the sets that the full matching needs.
+/// Longer paths are not tried: this runs after each turn and round of a search, where it spares the copy of the sets that the full matching needs.
 #[derive(Drop)]
 pub struct GreedyMatching<'a> {
     known: KnownOrder<'a>,

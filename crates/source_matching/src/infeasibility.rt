@@ -59,7 +59,7 @@ pub fn find_lack(
 }
 
 /// Returns whether `find_contradiction` finds something if these sources are possible. This takes less time, since it needs no choices: a search
-/// asks after each turn, and mostly finds nothing.
+/// asks after each turn and round, and mostly finds nothing.
 pub fn has_hall_violator(
     alloc: Global,
     possible: SourceSets,

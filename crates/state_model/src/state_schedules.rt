@@ -54,7 +54,7 @@ fn breadth_of(log: &NumberedLog, kind: StateSearchKind) -> Breadth {
         StateSearchKind::Broad => (BROAD_STATES, SPARE_WEIGHT),
         StateSearchKind::Spendthrift => (BROAD_STATES, SMALL_SPARE_WEIGHT),
     };
-    // A log without operations has one state.
+    // Without operations there is one state, whatever the breadth.
     let processes = busy_processes(log).max(1);
     Breadth {
         states: states / processes,
