@@ -103,7 +103,8 @@ impl<'a> OrderedTrail<'a> {
         }
     }
 
-    /// Assigns what the literal implies by transitivity.
+    /// Assigns what the literal implies by transitivity. The literal must have been open, so that the pair closes no cycle. `implied` has each
+    /// literal behind those from which it follows, so on the trail the reasons of a literal stand before it, as conflict analysis needs.
     fn close(&mut self, literal: LiteralCode) {
         let (a, b) = self.ends(literal);
         self.order.add(a, b);

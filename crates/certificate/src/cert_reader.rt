@@ -84,6 +84,7 @@ fn read_start(alloc: Global, text: &[u8]) -> Result<(Tree, Vec<u8>, usize), Cert
     ensures room { IfOk result (λ read. read.2 + length read.1.items + 2 < 2 ^ 64) }
     ensures faulty { IfErr result (λ fault. IsRefusal (HasCertFault text.now) fault) }
 {
+    // A law, which does nothing when run: the tree's bytes are within the text, and the lines behind them are the others of the text.
     other_lines_are_behind();
     let (behind, header) = read_header(text)?;
     let (tree, bytes) = read_tree_behind(alloc, behind, header)?;

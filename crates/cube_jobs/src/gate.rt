@@ -24,7 +24,8 @@ pub trait Gate {
     /// gate that has no use for it leaves this out.
     fn begin_round(&self, _jobs: usize) {}
 
-    /// The worker has taken the job of this ticket.
+    /// The worker has taken the job of this ticket, which is the number of the cube's leaf; both count from 0. Workers in threads may call it at the
+    /// same time, each before it looks whether a lower leaf has a model, so that a test which waits here decides what that look shows.
     fn before(&self, worker: u32, ticket: u32);
 
     /// The worker has settled the job of this ticket.

@@ -5,9 +5,11 @@ use crate::item::PictureItem;
 use crate::saturation::DrawnPart;
 use std::alloc::{AllocError, Global};
 
-/// Boxes that each need a source of its own, and the fewer sources that they can have all together.
+/// Boxes that each need a source of its own, and the fewer sources that they can have all together. An update needs one of its own, since no two
+/// updates read one write; so does a final value, since no update reads the last write of its location.
 pub struct Shortage {
-    /// The number of a box that needs a source.
+    /// The number of a box that reads what these need, which is asked for its location and its value alone. It may be none of these: an operation that
+    /// is not drawn may be its source.
     pub first: usize,
     /// For each box, whether it needs a source of its own.
     needing: Vec<bool>,

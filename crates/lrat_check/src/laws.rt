@@ -53,7 +53,8 @@ pub fn accepted_or_refused()
         IsAccepted clauses cube steps ⊎ ((fault : StepFault) × (place : ℕ) × IsRefused clauses cube steps fault place) }
 {}
 
-/// A derivation that is accepted for one cube, and does not need it in place of a second, is accepted for the second.
+/// A derivation that is accepted for one cube, and does not need it in place of a second, is accepted for the second. It does not need it if both
+/// are equally long, no step names the id of a literal of the cube, and none adds a clause whose first literal is negated in the second cube alone.
 pub fn accepted_for_other_cubes()
     ensures { (clauses : List (List ℤ)) (first second : List ℤ) (steps : List Step) →
         AreServed (length clauses) first second steps → IsAccepted clauses first steps → IsAccepted clauses second steps }

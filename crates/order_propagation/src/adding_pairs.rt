@@ -98,7 +98,8 @@ impl<'a> Propagation<'a> {
         Ok(())
     }
 
-    /// Lowers the rows of the process's operations from this place back, up to the first that has the pair's second operation already.
+    /// Lowers the rows of the process's operations from this place back, up to the first that has the pair's second operation already. It does
+    /// not stop at the end of the reach, as `raise_from` does: what comes into reach is raised then, but nothing lowers it.
     fn lower_from(&mut self, bound: RowEntry, second: OperationId) -> Result<(), AllocError> {
         let later = self.log.operation(second);
         for place in bound.place.down_to_first() {

@@ -25,6 +25,7 @@ fn shares_of<R: Threads + Sync, I: Sync, T: Send + Drop, F: Fn(&I) -> T + Sync>(
 {
     let counter = AtomicUsize::new(0);
     let next = &counter;
+    // Each worker is a piece of its own: without `with_min_len` no piece has fewer than 1,024 of them, and all would share one thread.
     (0..workers)
         .into_par_iter()
         .with_min_len(1)

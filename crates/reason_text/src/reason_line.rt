@@ -138,7 +138,7 @@ fn read_kind<'a>(
     Err(ReasonRefusal::For(ReasonCause::BadLine))
 }
 
-/// Reads a line.
+/// Reads a line. A comment begins with `#` and not, as in DIMACS, with `c`, which begins a cycle here.
 pub fn read_reason_line<'a>(
     alloc: Global,
     table: &OperationTable<'a>,

@@ -191,7 +191,7 @@ fn explain_device(notes: &mut Notes, texts: &AskedTexts<'_>) {
     ]);
 }
 
-/// Adds how long a file may be.
+/// Adds how long a file may be. The number is `MAX_INPUT_BYTES` of `verdict_report`, which stands written out in `all_refusals.rt` too, and changes with it.
 fn explain_length(notes: &mut Notes) {
     notes.note(&[b"a file has at most 268435456 bytes"]);
 }

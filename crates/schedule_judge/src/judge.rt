@@ -21,7 +21,8 @@ use trace_semantics::operation::{Op, OpName};
 use trace_semantics::schedule::Schedule;
 use trace_semantics::trace::{Process, Trace};
 
-/// Returns whether the operation at this place of this process, which is the one in this row, is among the first `count` names.
+/// Returns whether the operation at this place of this process, which is the one in this row, is among the first `count` names. The contract alone
+/// needs `survey`, `process` and `count`: they say which names `come` has to have counted.
 fn has_come<'a>(
     survey: &Survey<'a>,
     come: &Come,

@@ -91,6 +91,7 @@ impl<'a> Search<'a> {
         // Literals of the current level that were met and are not resolved away yet.
         let mut open = self.resolve(conflict)?;
         if open == 0 {
+            // Then the level is 0: nothing is decided before propagation has ended, so above level 0 each conflict has a literal of the current level.
             self.learned.clear();
         }
         for place in (0..self.trail.trail.count()).rev() {

@@ -253,7 +253,8 @@ impl ScheduleHeuristic {
     }
 
     /// Returns the order literal that puts the best ready event before another ready one, if there are two. If none fits, the state is a
-    /// dead end, and any of them leads to the conflict that says so.
+    /// dead end, and any of them leads to the conflict that says so. Of two ready events neither is known to stand before the other, since all that stands
+    /// before a ready one is placed: so the literal is open, as a decision must be.
     fn best(
         &mut self,
         trail: &OrderedTrail<'_>,

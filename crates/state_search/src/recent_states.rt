@@ -20,7 +20,8 @@ impl RecentStates {
         })
     }
 
-    /// Notes the state of this mixed number. Returns whether it is new.
+    /// Notes the state of this mixed number. Returns whether it is new. Two states of one number count as one, and one of number 0 as met from the
+    /// start: this may lose a schedule, but makes none wrong, since a schedule is made of the choices that led to its end.
     #[inline(always)]
     pub(crate) fn note(&mut self, mixed: u64) -> bool {
         let slot = ((mixed >> 32) as u32) & (SLOTS - 1);

@@ -221,7 +221,8 @@ impl<'a> GivenOrder<'a> {
         self.log.final_reader(location)
     }
 
-    /// A writer of the reader's location that stands between the two operations.
+    /// A writer of the reader's location that stands between the two operations. The reader must be an operation, since its location is looked up: for
+    /// a final value there is `later_writer`.
     pub fn hider(&self, source: OperationId, reader: OperationId) -> Option<OperationId> {
         let location = self.log.operation(reader).location;
         for process in self.log.process_ids() {

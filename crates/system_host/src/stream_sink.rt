@@ -30,7 +30,8 @@ impl<W: Write> StreamSink<W> {
         }
     }
 
-    /// The stream itself.
+    /// The stream itself, by which a file is emptied. Bytes written to it in another way than by `write` would be missing from what
+    /// contracts take for written.
     pub(crate) fn stream(&self) -> &W {
         &self.stream
     }

@@ -103,6 +103,7 @@ impl<'a> TraceReader<'a> {
             IsRefusedFor (trace_line_fault before line.now) refusal) }
         ensures taken { OnOk result ((before : List (List ℕ)) (ss : List Said) → AreSaid version before ss → IsProgress (limits_of version) ss self.old → TakesLine version before line.now self.new) }
     {
+        // These are no more than eleven, and no statement has as many: a line with too many words is refused without the rest of them.
         let words = first_words(line);
         if is_skipped_line(words.as_slice()) {
             return Ok(());
