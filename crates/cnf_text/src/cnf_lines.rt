@@ -28,7 +28,8 @@ fn begins_with_byte(word: &[u8], byte: u8) -> bool
     !word.is_empty() && word[0] == byte
 }
 
-/// Returns whether the text ends at the line.
+/// Returns whether the text ends at the line. Without such an end, a file that closes with a line `%` and a line `0` would be refused for words
+/// after all its clauses.
 fn is_end_line(line: &[u8]) -> bool
     ensures { result ≡ is_end line.now }
 {
@@ -38,8 +39,8 @@ fn is_end_line(line: &[u8]) -> bool
     }
 }
 
-/// The next line that says something, where the first one of the text has this number; or the number of the line at
-/// which the text ends.
+/// The next line of the text that says something, if its first line has this number; or the number of the line at which it ends: the one that
+/// begins with `%`, or the one after the last.
 pub(crate) fn next_said(text: &[u8], first: usize) -> Result<ContentLine<'_>, usize>
     requires { first + length text.now < 2 ^ 64 }
     ensures { MatchResult result

@@ -34,7 +34,8 @@ pub(crate) struct BatchTask<'a, R> {
 }
 
 /// The searches of these numbers. Each trace is searched in one round, and by one thread, since traces are decided side by side by `workers`
-/// threads. The steps of a survey are no part of the options, and are given with the surveyor.
+/// threads. The steps of a survey are no part of the options, and are given with the surveyor. Of both requests the options alone are used, so
+/// the `false`, by which no progress is asked for, has no effect.
 pub(crate) fn batch_of(numbers: BatchNumbers) -> BatchSearch
     requires { AreBatchNumbers numbers }
 {

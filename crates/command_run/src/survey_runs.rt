@@ -32,8 +32,8 @@ pub(crate) struct SurveyPaths<'p> {
     pub(crate) files: SurveyFiles<'p>,
 }
 
-/// Does so with two sinks, and a file for the part if there is a path for it. It is made or opened first, and `Device` is answered if that is not
-/// possible. The sinks are given back.
+/// Runs the survey with the sinks for the certificate and for the names, and with a file for the part if there is a path for it. The file is made or
+/// opened first, and `Device` is answered if that is not possible. `CoreSinks` owns its sinks, so these two are given back for the callers to close.
 fn with_part<'p, R: Threads + Wait + Sync, G: Gate + Sync, H: Host<'p>, C: Sink, N: Sink, W: Sink>(
     asked: &AskedSurvey<'_, 'p, R, G>,
     host: &mut H,

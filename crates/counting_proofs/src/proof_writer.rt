@@ -26,6 +26,7 @@ impl Definition {
 }
 
 /// Returns the hint that begins a group for the clause. Here a group has no further hints, since the resolvent with its clause is a tautology.
+/// The clause must have a number: of `ClauseId::NONE` the hint is 0, which begins no group.
 fn group(known: ShortClause) -> i64 {
     -i64::from(known.id.number())
 }

@@ -280,7 +280,7 @@ fn explain_rechecked(
 }
 
 /// Notes why the operations of the core that the report names have no legal schedule, in sentences if a short derivation is found, and
-/// else which they are.
+/// else which they are. If the trace lacks one of the names, or one stands twice, there is no part, and the names are noted.
 fn explain_reported_core(
     alloc: Global,
     notes: &mut Notes,
@@ -314,8 +314,8 @@ fn explain_finding(
     }
 }
 
-/// Notes the lines of a certificate of reasons, if a short survey without hints finds one that is short enough. The answer is whether it does: that of the report
-/// is not at hand. A survey gives two findings where it has both reasons and a core, in the order in which they are to be asked.
+/// Notes the lines of a certificate of reasons, if a short survey without hints finds one that is short enough. The answer is whether it does: that of the
+/// report is not at hand. A survey gives two findings where it has both reasons and a core, in the order in which they must be asked.
 fn explain_found_lines(
     alloc: Global,
     notes: &mut Notes,

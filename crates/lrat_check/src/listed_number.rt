@@ -23,7 +23,8 @@ pub(crate) trait ListedNumber: Copy {
     /// The integer that it is.
     ghost number: { Self → ℤ };
 
-    /// Hands its caller, in proofs alone, that nothing is wrong with such a number, which is not 0, and with 0. Does nothing when run.
+    /// Gives its caller, in proofs alone, that `fault` finds nothing wrong with such a number or with 0, and that such a number is not 0. `read_list`
+    /// is for all kinds of numbers, and knows of `fault`, `passes` and `number` only what this trait says. Does nothing when run.
     fn recall_right()
         ensures listed { (listed : Self) → passes (number listed) ≡ true → (fault (Some (number listed)) ≡ None) × (is_zero (Some (number listed)) ≡ false) }
         ensures zero { fault (Some (pos 0)) ≡ None };

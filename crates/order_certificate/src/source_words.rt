@@ -48,7 +48,8 @@ impl Explanation {
         self.add_pieces(order, reader, time)
     }
 
-    /// Adds the pieces for what the reader had lost at this time.
+    /// Adds the pieces for what the reader had lost at this time to the line at hand, behind the words that name the reader, and notes in `earlier`
+    /// the writers that it had left. The last writer of a location is an operation, so of a final value there is no piece for the initial one.
     pub(crate) fn add_pieces(
         &mut self,
         order: &Propagation<'_>,

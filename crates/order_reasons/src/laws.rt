@@ -55,7 +55,8 @@ pub fn one_comes_first()
     ensures { (t : TraceValue) (clause : List (OpName × OpName)) (members : List OpName) → IsWaitingClause t clause members → HoldsOfSchedules t clause }
 {}
 
-/// A trace has no legal schedule if clauses have no model of which each holds in each legal schedule.
+/// If each of some clauses holds in each legal schedule, and no assignment makes all of them true, the trace has no legal schedule. `pairs` gives for
+/// each variable the two operations of which its positive literal says that the first stands before the second.
 pub fn unsatisfiable_has_no_schedule()
     ensures { (t : TraceValue) (pairs : ℕ → OpName × OpName) (clauses : List (List ℤ)) → AreReasons t pairs clauses → HasNoModelIn clauses [] → HasNoSchedule t }
 {}

@@ -20,7 +20,8 @@ use reason_text::source_piece::SourcePiece;
 use std::alloc::{AllocError, Global};
 use writer_table::operation_place::OperationPlace;
 
-/// Takes the piece, and returns whether it is the first one of its kind.
+/// Takes the piece, and returns whether it is the first one of its kind. Each process has at most one `Hidden` piece and at most
+/// one `Later` piece, and all of them together at most one `Initial` piece and one that takes all others: `Others` or `Apart`.
 fn take_piece(pieces: &mut SourcePieces, piece: SourcePiece) -> Result<bool, AllocError>
     ensures { IfOk result (λ done. (front : List Piece) → AreGathered front pieces.old → MatchBool done (AreGathered (front ++ piece ∷ []) pieces.new) (HasOfKind front piece)) }
 {

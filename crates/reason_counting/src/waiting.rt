@@ -159,7 +159,8 @@ fn want_all_behind(waiting: &WaitingSet, stretches: &[LeftStretch]) -> Result<()
     Ok(())
 }
 
-/// Appends what bars the sources of the reader that a piece takes. The others may not come before all of the waiting set.
+/// Appends what bars the sources of the reader that a piece takes. The others may not come before all of the waiting set. So if the reader may read
+/// the initial value, which is there before all operations, a piece must take that.
 fn wait_for_source(
     alloc: Global,
     waiting: &WaitingSet,

@@ -63,7 +63,8 @@ fn push_cycle(
     Ok(())
 }
 
-/// Appends what the operation reads, and from where it may be.
+/// Appends what the operation reads, and from where it may be, as `Q.2 reads 0 at data, from the initial value, which P.1 would hide, or from an
+/// operation before it`. The last words are on the sources that no piece takes.
 fn push_source(
     text: &mut Vec<u8>,
     trace: &Trace,
