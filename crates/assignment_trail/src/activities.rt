@@ -158,8 +158,9 @@ impl Activities {
     /// Inserts the variable into the heap, if it is a decision variable and not there.
     #[inline(always)]
     pub fn insert(&mut self, variable: Variable) {
-        if at(self.wanted.as_slice(), variable.number(), 0) == 0
-            || at(self.places.as_slice(), variable.number(), 1) != 0
+        // Most have never left the heap: that is asked first.
+        if at(self.places.as_slice(), variable.number(), 1) != 0
+            || at(self.wanted.as_slice(), variable.number(), 0) == 0
         {
             return;
         }

@@ -75,6 +75,7 @@ impl<'a> OrderedTrail<'a> {
     }
 
     /// A writer is ordered before a reader of its location: the reader reads from nothing before the writer, and what it reads comes after.
+    #[inline(always)]
     fn follow_writer(
         &mut self,
         reads_from: &ReadsFromTable,
@@ -85,6 +86,28 @@ impl<'a> OrderedTrail<'a> {
         if first != Variable::NONE {
             self.strike(reads_from, first, writer)?;
         }
+        if self.hides_nothing(writer, reader) {
+            return Ok(());
+        }
+        self.hide_sources(reads_from, writer, reader)
+    }
+
+    /// Returns whether nothing follows for the reader's sources from that the writer is ordered before it: none that is open stands before the writer, and
+    /// none is chosen. Of nine in ten literals nothing follows, so this is asked before any loop over sources.
+    #[inline(always)]
+    fn hides_nothing(&self, writer: u32, reader: u32) -> bool {
+        let before = self.order().predecessors();
+        self.candidates.chosen.is_empty(reader)
+            && self.candidates.writers.is_disjoint(reader, before, writer)
+    }
+
+    /// The writer hides what stands before it from the reader, and comes before the source that the reader has.
+    fn hide_sources(
+        &mut self,
+        reads_from: &ReadsFromTable,
+        writer: u32,
+        reader: u32,
+    ) -> Result<(), ReasonClause> {
         for number in 0..self.candidates.writers.words() {
             let before = self.order().predecessors().word(writer, number);
             let mut hidden = self.candidates.writers.word(reader, number) & before;
@@ -111,7 +134,31 @@ impl<'a> OrderedTrail<'a> {
 
     /// Two writers of a location are ordered: a reader of the first comes before the second (from-read), and a reader after the second does
     /// not read the first.
+    #[inline(always)]
     fn follow_writers(
+        &mut self,
+        reads_from: &ReadsFromTable,
+        first: u32,
+        second: u32,
+    ) -> Result<(), ReasonClause> {
+        if self.cuts_nothing_off(first, second) {
+            return Ok(());
+        }
+        self.cut_readers_off(reads_from, first, second)
+    }
+
+    /// Returns whether nothing follows for the readers of the first writer from that it is ordered before the second: none that may read it stands behind the
+    /// second, and those that read it stand before the second.
+    #[inline(always)]
+    fn cuts_nothing_off(&self, first: u32, second: u32) -> bool {
+        let before = self.order().predecessors();
+        let behind = self.order().successors();
+        self.candidates.chosen_by.is_subset(first, before, second)
+            && self.candidates.readers.is_disjoint(first, behind, second)
+    }
+
+    /// The second writer cuts the readers behind it off from the first one, whose readers come before the second.
+    fn cut_readers_off(
         &mut self,
         reads_from: &ReadsFromTable,
         first: u32,

@@ -62,6 +62,9 @@ pub struct ReadsFromTable {
     /// For each reader and each writer the variable of the choice, or none; after the writers the one of the choice without a
     /// writer. So a reader has one entry more than there are elements.
     variables: Vec<Variable>,
+    /// For each reader the variable of the choice without a writer, or none: once more, since propagation asks for it at each literal that orders a writer
+    /// before a reader.
+    without_writer: Vec<Variable>,
     /// The last writers, those of one location one after the other.
     last_writers: Vec<LastWriter>,
 }
@@ -77,6 +80,7 @@ impl Drop for ReadsFromTable {
             reading: _reading,
             writing: _writing,
             variables: _variables,
+            without_writer: _without_writer,
             last_writers: _last_writers,
         } = self;
     }
@@ -95,6 +99,7 @@ impl ReadsFromTable {
             reading: vec![in alloc; 0; elements as usize]?,
             writing: vec![in alloc; 0; elements as usize]?,
             variables: vec![in alloc; Variable::NONE; pairs as usize]?,
+            without_writer: vec![in alloc; Variable::NONE; elements as usize]?,
             last_writers: Vec::new(alloc),
         })
     }
@@ -128,6 +133,9 @@ impl ReadsFromTable {
         self.choices.push(Some(choice))?;
         let place = self.place_of(choice.reader, column);
         put(self.variables.as_mut_slice(), place, variable);
+        if column == self.elements {
+            put(self.without_writer.as_mut_slice(), choice.reader, variable);
+        }
         put(self.reading.as_mut_slice(), choice.reader, 1);
         Ok(())
     }
@@ -198,7 +206,7 @@ impl ReadsFromTable {
     /// Returns the variable of the choice of this reader without a writer, or none.
     #[inline(always)]
     pub fn variable_without_writer(&self, reader: u32) -> Variable {
-        self.variable(reader, self.elements)
+        at(self.without_writer.as_slice(), reader, Variable::NONE)
     }
 
     /// Returns whether the element writes a location of others.

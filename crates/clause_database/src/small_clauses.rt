@@ -112,6 +112,12 @@ impl SmallClauses {
         put(self.ids.as_mut_slice(), place, id);
     }
 
+    /// Returns whether there is no clause. A trace's formula has none that is not true at level 0, but for clauses that its hints tell of.
+    #[inline(always)]
+    pub fn is_empty(&self) -> bool {
+        self.others.is_empty()
+    }
+
     /// Returns the place where the part of this literal begins.
     #[inline(always)]
     pub fn start(&self, literal: LiteralCode) -> u32 {

@@ -93,6 +93,41 @@ impl ElementSets {
         put(self.sets.as_mut_slice(), place, word & !bit(element));
     }
 
+    /// Returns the three words of the owner's set.
+    #[inline(always)]
+    fn words_of(&self, owner: u32) -> (u64, u64, u64) {
+        let place = owner.wrapping_mul(WORDS) as usize;
+        let sets = self.sets.as_slice();
+        if place < sets.len() && 2 < sets.len() - place {
+            (sets[place], sets[place + 1], sets[place + 2])
+        } else {
+            (0, 0, 0)
+        }
+    }
+
+    /// Returns whether the owner's set is empty. This and the next two look at whole sets at once: propagation asks them for each literal, and mostly ends there.
+    #[inline(always)]
+    pub fn is_empty(&self, owner: u32) -> bool {
+        let (a, b, c) = self.words_of(owner);
+        a | b | c == 0
+    }
+
+    /// Returns whether the owner's set has no element in common with a set of others, that of `other`.
+    #[inline(always)]
+    pub fn is_disjoint(&self, owner: u32, others: &ElementSets, other: u32) -> bool {
+        let (a, b, c) = self.words_of(owner);
+        let (d, e, f) = others.words_of(other);
+        (a & d) | (b & e) | (c & f) == 0
+    }
+
+    /// Returns whether each element of the owner's set is in a set of others, that of `other`.
+    #[inline(always)]
+    pub fn is_subset(&self, owner: u32, others: &ElementSets, other: u32) -> bool {
+        let (a, b, c) = self.words_of(owner);
+        let (d, e, f) = others.words_of(other);
+        (a & !d) | (b & !e) | (c & !f) == 0
+    }
+
     /// Returns the first element of the owner's set, or 192 if it is empty.
     pub fn first(&self, owner: u32) -> u32 {
         for number in 0..self.words {

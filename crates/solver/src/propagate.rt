@@ -42,11 +42,15 @@ fn next_touched(others: &[Others], from: u32, values: &[u8]) -> u32 {
 
 /// Propagates a falsified literal through the clauses of two and three literals. Returns a conflict, if there is one. The places of `others` begin
 /// at 0 for this literal, those of ids at `start`.
+#[inline(always)]
 fn visit_small(
     trail: &mut OrderedTrail<'_>,
     small: &SmallClauses,
     falsified: LiteralCode,
 ) -> Option<ReasonClause> {
+    if small.is_empty() {
+        return None;
+    }
     let others = small.others(falsified);
     let start = small.start(falsified);
     let mut place: u32 = 0;
@@ -181,7 +185,7 @@ pub fn propagate(
     watches: &mut Watches,
     variables: u32,
 ) -> Result<Option<ReasonClause>, AllocError> {
-    for _ in 0..=variables {
+    for _ in 0..variables {
         let Some(literal) = trail.trail.next() else {
             return Ok(None);
         };
