@@ -1,5 +1,5 @@
 use Rattle.std.proofs.Common.{◌<◌, ◌≤◌, ◌-◌, get_or}
-use Rattle.clause_blocks.proofs.table_search.reached.Given as goal
+use Rattle.clause_blocks.proofs.table_search.Landmarks.reached.Given as goal
 
 abbrev pub invariant-loop-high : goal.invariant-loop-high
 invariant-loop-high l = record {
