@@ -2,7 +2,7 @@
 
 ghost use Rattle.std.specs.Prelude.{◌≡◌, ◌≤◌, ◌&&◌, codes, false, true, length, map, option_map, None, if◌then◌else◌};
 ghost use Rattle.std.specs.Str.{bytes_eq};
-ghost use Rattle.trace_text.specs.Said.{said};
+ghost use Rattle.trace_text.specs.Said.{said, said_source};
 ghost use Rattle.trace_text.specs.Statement.{untimed_statement, timed_statement, statement_of};
 ghost use Rattle.trace_text.specs.Statement as statement_spec;
 ghost use Rattle.trace_text.specs.Version.{has_times};
@@ -96,6 +96,18 @@ fn of_five_words<'a>(words: &[&'a [u8]]) -> Option<Statement<'a>>
     }
 }
 
+/// The statement of an update that says no times.
+fn untimed_update<'a>(
+    location: &'a [u8],
+    read: &'a [u8],
+    left: &'a [u8],
+    source: ReadsFrom<'a>,
+) -> Statement<'a>
+    ensures { said result ≡ statement_spec.Update location.now read.now left.now (said_source source.entry) statement_spec.Untimed }
+{
+    Statement::Update(location, read, left, source, TimesSaid::Untimed)
+}
+
 /// Gives what six words say in version 2.
 fn of_six_words<'a>(words: &[&'a [u8]]) -> Option<Statement<'a>>
     requires { length words.now ≡ 6 }
@@ -109,13 +121,7 @@ fn of_six_words<'a>(words: &[&'a [u8]]) -> Option<Statement<'a>>
             TimesSaid::Untimed,
         ))
     } else if is_key_from_init(words[0], "U", words[4], words[5]) {
-        Some(Statement::Update(
-            words[1],
-            words[2],
-            words[3],
-            ReadsFrom::FromInit,
-            TimesSaid::Untimed,
-        ))
+        Some(untimed_update(words[1], words[2], words[3], ReadsFrom::FromInit))
     } else {
         None
     }
@@ -131,12 +137,11 @@ fn read_long_statement<'a>(words: &[&'a [u8]]) -> Option<Statement<'a>>
     } else if words.len() == 6 {
         of_six_words(words)
     } else if words.len() == 7 && is_key_from(words[0], "U", words[4]) {
-        Some(Statement::Update(
+        Some(untimed_update(
             words[1],
             words[2],
             words[3],
             ReadsFrom::FromOp(words[5], words[6]),
-            TimesSaid::Untimed,
         ))
     } else {
         None
@@ -152,13 +157,7 @@ fn read_plain_statement<'a>(words: &[&'a [u8]]) -> Option<Statement<'a>>
     } else if words.len() == 3 {
         of_three_words(words)
     } else if words.len() == 4 && is_word(words[0], "U") {
-        Some(Statement::Update(
-            words[1],
-            words[2],
-            words[3],
-            ReadsFrom::Unsaid,
-            TimesSaid::Untimed,
-        ))
+        Some(untimed_update(words[1], words[2], words[3], ReadsFrom::Unsaid))
     } else {
         None
     }
