@@ -112,7 +112,7 @@ impl SmallClauses {
         put(self.ids.as_mut_slice(), place, id);
     }
 
-    /// Returns whether there is no clause. A trace's formula has none that is not true at level 0, but for clauses that its hints tell of.
+    /// Returns whether there is no clause. A search of a trace's formula mostly has none: what is not kept as sets of bits is true at level 0.
     #[inline(always)]
     pub fn is_empty(&self) -> bool {
         self.others.is_empty()
