@@ -3,7 +3,6 @@
 mod certified_verdicts;
 mod formula_engines;
 mod judging;
-mod part_rechecks;
 mod parts;
 mod rechecks;
 mod text_runs;
