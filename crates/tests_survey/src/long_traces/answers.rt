@@ -13,6 +13,9 @@ use survey_report::{CoreSinks, run_certified_survey, run_survey};
 use surveyor::Surveyor;
 use verdict_report::{Fault, ShortSource, Status};
 
+/// A survey with steps enough for the traces of most tests.
+pub const SURVEY: BySaturation = BySaturation { budget: 1_000_000 };
+
 /// The devices of a survey that does not certify.
 #[derive(Drop)]
 pub struct SurveyDevices<'t, 'h> {

@@ -1,7 +1,7 @@
 //! What a survey writes beside its report: the certificate, the names of a core, and its part.
 
 use crate::expectations::{ample, expect};
-use crate::long_traces::answers::{Written, texts_of};
+use crate::long_traces::answers::{SURVEY, Written, texts_of};
 use crate::long_traces::lying_surveyors::{Liar, Lie};
 use crate::long_traces::traces::{
     HAND_OFF, after_many_writes, counted_lock, ring, with_many_writes,
@@ -41,9 +41,8 @@ fn assert_accepts(alloc: Global, rt: &impl Abort, trace: &[u8], found: &Written,
 // The part has the names in the whole, and the certificate is one for it.
 #[test]
 fn certifies_the_part_of_a_core(rt: HostRuntime) {
-    let survey = BySaturation { budget: 1_000_000 };
     let long = ample(&rt, after_many_writes(rt.alloc()));
-    let found = written_of(rt.alloc(), &rt, long.as_str(), &survey, Status::No, 11);
+    let found = written_of(rt.alloc(), &rt, long.as_str(), &SURVEY, Status::No, 11);
     let names: &[u8] = b"P.201\nP.202\nQ.1\nQ.2\n";
     expect(&rt, found.names.as_slice() == names, 11);
     let part: &[u8] =
@@ -90,9 +89,8 @@ fn assert_silent(rt: &impl Abort, found: &Written, number: usize) {
 // With another report than INCONSISTENT nothing is written beside it.
 #[test]
 fn writes_the_report_alone_with_another_answer(rt: HostRuntime) {
-    let survey = BySaturation { budget: 1_000_000 };
     let long = ample(&rt, with_many_writes(rt.alloc(), HAND_OFF));
-    let found = written_of(rt.alloc(), &rt, long.as_str(), &survey, Status::Yes, 16);
+    let found = written_of(rt.alloc(), &rt, long.as_str(), &SURVEY, Status::Yes, 16);
     assert_silent(&rt, &found, 16);
     let lock = ample(&rt, counted_lock(rt.alloc()));
     let none = BySaturation { budget: 0 };

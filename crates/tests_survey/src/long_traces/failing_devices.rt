@@ -1,14 +1,15 @@
 //! Surveys over a source that hands out a byte a call and sinks that take a byte a call, of which one fails at one of its calls.
 
 use crate::expectations::expect;
-use crate::long_traces::answers::{Sinks, SurveyDevices, answer_over, texts_of, written_to};
+use crate::long_traces::answers::{
+    SURVEY, Sinks, SurveyDevices, answer_over, texts_of, written_to,
+};
 use crate::long_traces::traces::{STORE_BUFFERING, no_hint};
 use dimacs::ShortSink;
 use std::alloc::Global;
 use std::process::Abort;
 use std::sync::Wait;
 use std::thread::Threads;
-use survey::BySaturation;
 use verdict_report::{Fault, ShortSource, Status};
 
 /// What is reported of store buffering: its core is all of it.
@@ -20,9 +21,6 @@ const NAMES: &[u8] = b"P.1\nP.2\nQ.1\nQ.2\n";
 /// Its part.
 const PART: &[u8] =
     b"vsc 1\ninit x 0\ninit y 0\nproc P\n# P.1\nW x 1\n# P.2\nR y 0\nproc Q\n# Q.1\nW y 1\n# Q.2\nR x 0\n";
-
-/// A survey that finds this core.
-const SURVEY: BySaturation = BySaturation { budget: 1_000_000 };
 
 /// A source of store buffering that does not fail.
 fn store_buffering() -> ShortSource<'static> {
