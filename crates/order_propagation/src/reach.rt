@@ -125,7 +125,9 @@ impl<'a> Propagation<'a> {
         end.earlier(self.reach.last(process).later(place).ahead(1))
     }
 
-    /// Wakes the readers in reach that have the writer at an end of their interval, of these positions of its class.
+    /// Wakes the readers in reach that have the writer at an end of their interval, of these positions of its class: all of them, or those alone that have
+    /// several sources. Readers of a class stand by their numbers, and so by processes, so those of a process in reach are found by one search. To wake a
+    /// reader is to have it looked at again: one that is left out makes what follows weaker, and nothing wrong.
     pub(crate) fn wake_in_reach(&mut self, writer: OperationId, positions: (u32, u32), all: bool) {
         let (begin, end) = positions;
         let mut position = begin;

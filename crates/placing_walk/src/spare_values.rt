@@ -36,7 +36,8 @@ const LESS_THAN_NONE: u32 = 1 << 31;
 /// A count of what is not scarce.
 const PLENTY: u32 = LESS_THAN_NONE - 1;
 
-/// Returns whether more than an eighth of the operations are updates.
+/// Returns whether more than an eighth of the operations are updates. Of such a log values that are scarce are counted here, and `schedule_search` tries beams and
+/// gives its walks other reaches and shares: this choice changes what is found, and nothing that is found is believed.
 pub fn has_many_updates(log: &NumberedLog) -> bool {
     let mut updates: u32 = 0;
     for number in log.operation_ids() {
@@ -111,7 +112,7 @@ impl SpareValues {
         );
     }
 
-    /// The class of what the location holds, if this operation has written it, or none.
+    /// The class of what the location holds: of what this operation has written, or of the initial value if no operation has written there (`NOBODY`).
     #[inline(always)]
     fn class_held(&self, location: LocationId, held: OperationId) -> ClassId {
         if held == NOBODY {
