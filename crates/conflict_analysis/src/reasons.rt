@@ -20,8 +20,8 @@ impl Analysis {
         pair: OrderedPair,
     ) -> Result<(), AllocError> {
         match pair.reason {
-            PairReason::BeforeReader(reader) => self.ask_before(order, reader, pair),
-            PairReason::AfterReader(reader) => self.ask_after(order, reader, pair),
+            PairReason::BeforeReader(reader) => self.ask_beside(order, reader, pair),
+            PairReason::AfterReader(reader) => self.ask_beside(order, reader, pair),
             PairReason::BeforeSource(reader) => {
                 self.ask_sources(order, reader, pair.time)?;
                 self.ask(order, pair.first, reader, pair.time)
@@ -35,8 +35,8 @@ impl Analysis {
         }
     }
 
-    /// Asks why the first operation of the pair stands before all sources of the reader.
-    fn ask_before(
+    /// Asks why the first operation of the pair stands before all sources of the reader, or why the second one stands after all of them.
+    fn ask_beside(
         &mut self,
         order: &Propagation<'_>,
         reader: OperationId,
@@ -44,28 +44,17 @@ impl Analysis {
     ) -> Result<(), AllocError> {
         self.ask_sources(order, reader, pair.time)?;
         for run in 0..self.earlier.intervals() {
-            // The first source that was left stands before the others of its interval, so it is enough to ask for it.
-            let source = self.earlier.first(order.classes(), run);
-            if source != NOBODY && source != pair.first {
-                self.ask(order, pair.first, source, pair.time)?;
-            }
-        }
-        Ok(())
-    }
-
-    /// Asks why the second operation of the pair stands after all sources of the reader.
-    fn ask_after(
-        &mut self,
-        order: &Propagation<'_>,
-        reader: OperationId,
-        pair: OrderedPair,
-    ) -> Result<(), AllocError> {
-        self.ask_sources(order, reader, pair.time)?;
-        for run in 0..self.earlier.intervals() {
-            // The last source that was left stands behind the others of its interval.
-            let source = self.earlier.last(order.classes(), run);
-            if source != NOBODY {
-                self.ask(order, source, pair.second, pair.time)?;
+            // The first source that was left stands before the others of its interval, and the last one behind them, so it is enough to ask for one.
+            if matches!(pair.reason, PairReason::BeforeReader(_)) {
+                let source = self.earlier.first(order.classes(), run);
+                if source != NOBODY && source != pair.first {
+                    self.ask(order, pair.first, source, pair.time)?;
+                }
+            } else {
+                let source = self.earlier.last(order.classes(), run);
+                if source != NOBODY {
+                    self.ask(order, source, pair.second, pair.time)?;
+                }
             }
         }
         Ok(())

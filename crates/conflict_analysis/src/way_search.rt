@@ -2,6 +2,7 @@
 //!
 //! Past the end of a table `at` reads as its last argument, and `put` does nothing; so arithmetic may wrap, and a wrong place makes no fault.
 
+use closed_rows::OrderedPairs;
 use numbered_log::{NO_NUMBER, OperationId};
 use order_propagation::Propagation;
 use possible_sources::Time;
@@ -112,7 +113,7 @@ impl WaySearch {
             self.leads_anywhere = true;
             self.look_for(order, question, (is_marked, asks_all))?;
         }
-        self.trace_back(order, question)
+        self.retrace(order.pairs(), question)
     }
 
     /// Returns whether the search at hand has met the operation.
@@ -149,8 +150,9 @@ impl WaySearch {
             }
             // An operation that was met again at a smaller length is still in the list of the larger one, and was gone on from before.
             if at(self.lengths.as_slice(), number.number(), 0) == length {
-                self.go_on(order, question, number, length)?;
-                self.follow_pairs(order, question, (number, length), costs)?;
+                let from = (number, length);
+                self.go_on(order, question, from)?;
+                self.follow_pairs(order, question, from, costs)?;
             }
         }
         Ok(())
@@ -203,21 +205,20 @@ impl WaySearch {
             || order.stands_before(number, question.second)
     }
 
-    /// Goes on to the next operation of the process.
+    /// Goes on to the next operation of the process. `from` has the operation, and the number of new pairs up to it.
     fn go_on(
         &mut self,
         order: &Propagation<'_>,
         question: WayQuestion,
-        number: OperationId,
-        length: u32,
+        from: (OperationId, u32),
     ) -> Result<(), AllocError> {
         self.steps = self.steps.wrapping_add(4);
-        let operation = order.log().operation(number);
-        let next = number.next();
+        let operation = order.log().operation(from.0);
+        let next = from.0.next();
         if operation.place < order.log().last_place(operation.process)
             && self.leads_on(order, question, next)
         {
-            self.meet(next, length, NO_NUMBER, true)?;
+            self.meet(next, from.1, NO_NUMBER, true)?;
         }
         Ok(())
     }
@@ -249,14 +250,10 @@ impl WaySearch {
     }
 
     /// Notes the pairs of the way that was found. If the second operation was not met, there are none.
-    fn trace_back(
-        &mut self,
-        order: &Propagation<'_>,
-        question: WayQuestion,
-    ) -> Result<(), AllocError> {
+    fn retrace(&mut self, pairs: &OrderedPairs, question: WayQuestion) -> Result<(), AllocError> {
         self.way.clear();
         let mut number = question.second;
-        for _ in 0..order.log().count() {
+        for _ in 0..self.turns.len() {
             if number == question.first || !self.is_met(number) {
                 break;
             }
@@ -266,7 +263,7 @@ impl WaySearch {
                 number = number.previous();
             } else {
                 self.way.push(arrival)?;
-                number = order.pairs().pair(arrival).first;
+                number = pairs.pair(arrival).first;
             }
         }
         Ok(())
