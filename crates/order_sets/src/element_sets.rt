@@ -74,6 +74,15 @@ impl ElementSets {
         put(self.sets.as_mut_slice(), place, word);
     }
 
+    /// Adds to the owner's set what the word of this number of another's has. Returns the elements that are new, as a word.
+    #[inline(always)]
+    pub fn join_word(&mut self, owner: u32, other: u32, number: u32) -> u64 {
+        let known = self.word(owner, number);
+        let added = self.word(other, number) & !known;
+        self.set_word(owner, number, known | added);
+        added
+    }
+
     #[inline(always)]
     pub fn has(&self, owner: u32, element: u32) -> bool {
         at(self.sets.as_slice(), word_of(owner, element), 0) & bit(element) != 0

@@ -134,9 +134,7 @@ impl OrderMatrix {
     #[inline(always)]
     fn inherit_behind(&mut self, a: u32, b: u32) {
         for w in 0..self.successors.words() {
-            let behind_a = self.successors.word(a, w);
-            let mut added = self.successors.word(b, w) & !behind_a;
-            self.successors.set_word(a, w, behind_a | added);
+            let mut added = self.successors.join_word(a, b, w);
             for _ in 0..64 {
                 let Some(c) = next_element(&mut added, w) else {
                     break;
@@ -156,9 +154,7 @@ impl OrderMatrix {
         self.inherit_behind(a, b);
         self.successors.insert(a, b);
         for v in 0..self.before.words() {
-            let before_b = self.before.word(b, v);
-            let mut added = self.before.word(a, v) & !before_b;
-            self.before.set_word(b, v, before_b | added);
+            let mut added = self.before.join_word(b, a, v);
             for _ in 0..64 {
                 let Some(c) = next_element(&mut added, v) else {
                     break;
