@@ -2,15 +2,23 @@
 
 use numbered_log::{NumberedLog, Operation, OperationId, ProcessId, ProcessIds, ProcessPlace};
 use std::alloc::{AllocError, Global};
-use total_tables::{at, put, size};
+use total_tables::{at, cell, put, size};
 
-/// A change of an entry of a row: its index in its table, and its value before.
+/// The two rows of an operation.
+#[derive(Clone, Copy, PartialEq, Eq)]
+pub enum RowKind {
+    /// Of what stands before the operation.
+    Before,
+    /// Of what stands after it.
+    After,
+}
+
+/// A change of an entry of a row: its index in the table of its kind, and its value before.
 #[derive(Clone, Copy)]
 struct RowChange {
     index: u32,
     old: ProcessPlace,
-    /// Whether the entry is of what stands after, and else of what stands before.
-    is_after: bool,
+    kind: RowKind,
 }
 
 /// The number of changes, at 12 bytes each, that are kept of any log.
@@ -32,6 +40,33 @@ const NO_BOUND: RowEntry = RowEntry {
     place: ProcessPlace::START,
 };
 
+/// Entries of rows of one kind that a new pair changes.
+#[derive(Drop)]
+pub struct ChangedEntries {
+    entries: Vec<RowEntry>,
+}
+
+impl ChangedEntries {
+    /// No entries, with room for one of each process.
+    fn new(alloc: Global, processes: u32) -> Result<ChangedEntries, AllocError> {
+        Ok(ChangedEntries {
+            entries: Vec::with_capacity(alloc, processes as usize)?,
+        })
+    }
+
+    /// The number of entries.
+    #[inline(always)]
+    pub fn count(&self) -> u32 {
+        size(self.entries.as_slice())
+    }
+
+    /// The entry of this number.
+    #[inline(always)]
+    pub fn entry(&self, number: u32) -> RowEntry {
+        at(self.entries.as_slice(), number, NO_BOUND)
+    }
+}
+
 /// For each operation two rows with a place for each process: the first of its operations that stands after this one, and the last one
 /// that stands before it. As a process is a chain, these say of each two operations whether one stands before the other, in tables of
 /// operations times processes, where a bit for each two operations would grow with the square of a log.
@@ -48,9 +83,9 @@ pub struct ClosedRows {
     /// Before the first decision nothing will be taken back, so changes are not kept.
     keeps_changes: bool,
     /// What a new pair says of what stands before its second operation, where that is news.
-    floors: Vec<RowEntry>,
+    floors: ChangedEntries,
     /// What it says of what stands after its first operation.
-    ceilings: Vec<RowEntry>,
+    ceilings: ChangedEntries,
 }
 
 /// Drops the tables in one call. A derived `Drop` would drop each at every exit of a function that owns rows, which makes its proof longer.
@@ -83,8 +118,8 @@ impl ClosedRows {
                 .saturating_mul(CHANGES_OF_EACH)
                 .max(FEW_CHANGES),
             keeps_changes: false,
-            floors: Vec::with_capacity(alloc, width as usize)?,
-            ceilings: Vec::with_capacity(alloc, width as usize)?,
+            floors: ChangedEntries::new(alloc, width)?,
+            ceilings: ChangedEntries::new(alloc, width)?,
         };
         for number in log.operation_ids() {
             rows.set_program_order(log, number);
@@ -101,9 +136,9 @@ impl ClosedRows {
             if process == operation.process {
                 after = operation.place.next();
                 let before = operation.place.previous();
-                put(self.before.as_mut_slice(), index, before);
+                self.set_entry(RowKind::Before, index, before);
             }
-            put(self.after.as_mut_slice(), index, after);
+            self.set_entry(RowKind::After, index, after);
         }
     }
 
@@ -122,30 +157,37 @@ impl ClosedRows {
     /// The index of the entry in the table of its kind: rows stand one after the other, by the numbers of operations.
     #[inline(always)]
     fn index(&self, number: OperationId, process: ProcessId) -> u32 {
-        number
-            .number()
-            .wrapping_mul(self.width)
-            .wrapping_add(process.number())
+        cell(number.number(), self.width, process.number())
+    }
+
+    /// The entry of the row of this kind at this index.
+    #[inline(always)]
+    fn entry(&self, kind: RowKind, index: u32) -> ProcessPlace {
+        match kind {
+            RowKind::Before => at(self.before.as_slice(), index, ProcessPlace::START),
+            RowKind::After => at(self.after.as_slice(), index, ProcessPlace::START),
+        }
+    }
+
+    /// Sets that entry.
+    #[inline(always)]
+    fn set_entry(&mut self, kind: RowKind, index: u32, place: ProcessPlace) {
+        match kind {
+            RowKind::Before => put(self.before.as_mut_slice(), index, place),
+            RowKind::After => put(self.after.as_mut_slice(), index, place),
+        }
     }
 
     /// The place of the process's first operation that stands after this one.
     #[inline(always)]
     pub fn after(&self, number: OperationId, process: ProcessId) -> ProcessPlace {
-        at(
-            self.after.as_slice(),
-            self.index(number, process),
-            ProcessPlace::START,
-        )
+        self.entry(RowKind::After, self.index(number, process))
     }
 
     /// The place of the process's last operation that stands before this one, or `START`.
     #[inline(always)]
     pub fn before(&self, number: OperationId, process: ProcessId) -> ProcessPlace {
-        at(
-            self.before.as_slice(),
-            self.index(number, process),
-            ProcessPlace::START,
-        )
+        self.entry(RowKind::Before, self.index(number, process))
     }
 
     /// Returns whether the first operation stands before the second. `NOBODY` has no row, and is said to stand before all: callers leave it out.
@@ -169,8 +211,8 @@ impl ClosedRows {
         first: OperationId,
         second: OperationId,
     ) -> Result<(), AllocError> {
-        self.floors.clear();
-        self.ceilings.clear();
+        self.floors.entries.clear();
+        self.ceilings.entries.clear();
         let earlier = log.operation(first);
         let later = log.operation(second);
         for process in self.process_ids() {
@@ -181,84 +223,54 @@ impl ClosedRows {
                 is_news = true;
             }
             if is_news && process != later.process {
-                self.floors.push(RowEntry { process, place })?;
+                self.floors.entries.push(RowEntry { process, place })?;
             }
             let mut place = self.after(second, process);
             if process == later.process {
                 place = later.place;
             }
             if place < self.after(first, process) && process != earlier.process {
-                self.ceilings.push(RowEntry { process, place })?;
+                self.ceilings.entries.push(RowEntry { process, place })?;
             }
         }
         Ok(())
     }
 
-    /// The number of entries that the new pair raises in rows of what stands before.
+    /// The entries that the new pair raises in rows of what stands before.
     #[inline(always)]
-    pub fn floors(&self) -> u32 {
-        size(self.floors.as_slice())
+    pub fn floors(&self) -> &ChangedEntries {
+        &self.floors
     }
 
-    /// The entry of this number.
+    /// The entries that the new pair lowers in rows of what stands after.
     #[inline(always)]
-    pub fn floor(&self, number: u32) -> RowEntry {
-        at(self.floors.as_slice(), number, NO_BOUND)
+    pub fn ceilings(&self) -> &ChangedEntries {
+        &self.ceilings
     }
 
-    /// The number of entries that the new pair lowers in rows of what stands after.
+    /// Sets an entry of the operation's row of this kind, and keeps what it was if changes are kept.
     #[inline(always)]
-    pub fn ceilings(&self) -> u32 {
-        size(self.ceilings.as_slice())
-    }
-
-    /// The entry of this number.
-    #[inline(always)]
-    pub fn ceiling(&self, number: u32) -> RowEntry {
-        at(self.ceilings.as_slice(), number, NO_BOUND)
-    }
-
-    /// Keeps what an entry was, if changes are kept.
-    #[inline(always)]
-    fn keep_change(&mut self, change: RowChange) -> Result<(), AllocError> {
+    pub fn change(
+        &mut self,
+        kind: RowKind,
+        number: OperationId,
+        bound: RowEntry,
+    ) -> Result<(), AllocError> {
+        let index = self.index(number, bound.process);
         if self.keeps_changes {
-            self.changes.push(change)?;
+            let old = self.entry(kind, index);
+            self.changes.push(RowChange { index, old, kind })?;
         }
+        self.set_entry(kind, index, bound.place);
         Ok(())
     }
 
-    /// Sets an entry of what stands before, and keeps what it was if changes are kept.
+    /// The place of the process's last operation that stands before this one or is it, or `START`; or of its first operation that stands after
+    /// this one or is it. The operation is given by its number, too.
     #[inline(always)]
-    pub fn raise(&mut self, number: OperationId, bound: RowEntry) -> Result<(), AllocError> {
-        let index = self.index(number, bound.process);
-        let old = at(self.before.as_slice(), index, ProcessPlace::START);
-        self.keep_change(RowChange {
-            index,
-            old,
-            is_after: false,
-        })?;
-        put(self.before.as_mut_slice(), index, bound.place);
-        Ok(())
-    }
-
-    /// Sets an entry of what stands after, and keeps what it was if changes are kept.
-    #[inline(always)]
-    pub fn lower(&mut self, number: OperationId, bound: RowEntry) -> Result<(), AllocError> {
-        let index = self.index(number, bound.process);
-        let old = at(self.after.as_slice(), index, ProcessPlace::START);
-        self.keep_change(RowChange {
-            index,
-            old,
-            is_after: true,
-        })?;
-        put(self.after.as_mut_slice(), index, bound.place);
-        Ok(())
-    }
-
-    /// The place of the process's last operation that stands before this one or is it, or `START`. The operation is given by its number, too.
-    #[inline(always)]
-    pub fn last_up_to(
+    pub fn nearest(
         &self,
+        kind: RowKind,
         number: OperationId,
         operation: Operation,
         process: ProcessId,
@@ -266,22 +278,7 @@ impl ClosedRows {
         if process == operation.process {
             operation.place
         } else {
-            self.before(number, process)
-        }
-    }
-
-    /// The place of the process's first operation that stands after this one or is it.
-    #[inline(always)]
-    pub fn first_from(
-        &self,
-        number: OperationId,
-        operation: Operation,
-        process: ProcessId,
-    ) -> ProcessPlace {
-        if process == operation.process {
-            operation.place
-        } else {
-            self.after(number, process)
+            self.entry(kind, self.index(number, process))
         }
     }
 
@@ -296,20 +293,36 @@ impl ClosedRows {
                 place = self.before(number.previous(), process);
             }
             let index = self.index(number, process);
-            put(self.before.as_mut_slice(), index, place);
+            self.set_entry(RowKind::Before, index, place);
+        }
+    }
+
+    /// Adds to the operation's row of this kind that of one which stands before it, or after it if the kind is `After`, and this one's place.
+    #[inline(always)]
+    fn join(&mut self, kind: RowKind, log: &NumberedLog, number: OperationId, other: OperationId) {
+        let joined = log.operation(other);
+        for process in self.process_ids() {
+            let place = self.nearest(kind, other, joined, process);
+            let index = self.index(number, process);
+            let old = self.entry(kind, index);
+            let is_news = match kind {
+                RowKind::Before => old < place,
+                RowKind::After => old > place,
+            };
+            if is_news {
+                self.set_entry(kind, index, place);
+            }
         }
     }
 
     /// Raises the row of what stands before the operation to that of one which stands before it, and this one's place.
     pub fn raise_to(&mut self, log: &NumberedLog, number: OperationId, earlier: OperationId) {
-        let other = log.operation(earlier);
-        for process in self.process_ids() {
-            let place = self.last_up_to(earlier, other, process);
-            let index = self.index(number, process);
-            if at(self.before.as_slice(), index, ProcessPlace::START) < place {
-                put(self.before.as_mut_slice(), index, place);
-            }
-        }
+        self.join(RowKind::Before, log, number, earlier);
+    }
+
+    /// Lowers the row of what stands after the operation to that of one which stands after it, and this one's place.
+    pub fn lower_to(&mut self, log: &NumberedLog, number: OperationId, later: OperationId) {
+        self.join(RowKind::After, log, number, later);
     }
 
     /// Sets the row of what stands after the operation to that of the one behind it in its process, which must have been made already.
@@ -324,19 +337,7 @@ impl ClosedRows {
                 place = self.after(number.next(), process);
             }
             let index = self.index(number, process);
-            put(self.after.as_mut_slice(), index, place);
-        }
-    }
-
-    /// Lowers the row of what stands after the operation to that of one which stands after it, and this one's place.
-    pub fn lower_to(&mut self, log: &NumberedLog, number: OperationId, later: OperationId) {
-        let other = log.operation(later);
-        for process in self.process_ids() {
-            let place = self.first_from(later, other, process);
-            let index = self.index(number, process);
-            if at(self.after.as_slice(), index, ProcessPlace::START) > place {
-                put(self.after.as_mut_slice(), index, place);
-            }
+            self.set_entry(RowKind::After, index, place);
         }
     }
 
@@ -359,11 +360,7 @@ impl ClosedRows {
             let Some(change) = self.changes.pop() else {
                 break;
             };
-            if change.is_after {
-                put(self.after.as_mut_slice(), change.index, change.old);
-            } else {
-                put(self.before.as_mut_slice(), change.index, change.old);
-            }
+            self.set_entry(change.kind, change.index, change.old);
         }
     }
 

@@ -9,7 +9,7 @@ mod ordered_pairs;
 mod pairs_by_second;
 mod sweeping;
 
-pub use closed_rows::{ClosedRows, RowEntry};
+pub use closed_rows::{ChangedEntries, ClosedRows, RowEntry, RowKind};
 pub use ordered_pairs::{NO_PAIR, OrderedPair, OrderedPairs, PairReason};
 pub use pairs_by_second::PairsBySecond;
 pub use sweeping::{Sweeps, close_rows};

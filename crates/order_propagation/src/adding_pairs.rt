@@ -7,7 +7,7 @@
 
 use crate::conflict::{Conflict, Stop};
 use crate::propagation::Propagation;
-use closed_rows::{PairReason, RowEntry};
+use closed_rows::{PairReason, RowEntry, RowKind};
 use numbered_log::{LocationId, OperationId, ProcessId, ProcessPlace};
 use std::alloc::AllocError;
 
@@ -35,12 +35,12 @@ impl<'a> Propagation<'a> {
         self.rows.begin_pair(self.log, first, second)?;
         // What stands after the second operation begins in each process at a ceiling: these rows are raised to the floors. What stands before the
         // first one ends in each process at a floor: these rows are lowered to the ceilings.
-        for number in 0..self.rows.ceilings() {
-            let bound = self.rows.ceiling(number);
+        for number in 0..self.rows.ceilings().count() {
+            let bound = self.rows.ceilings().entry(number);
             self.raise_from(bound, first)?;
         }
-        for number in 0..self.rows.floors() {
-            let bound = self.rows.floor(number);
+        for number in 0..self.rows.floors().count() {
+            let bound = self.rows.floors().entry(number);
             self.lower_from(bound, second)?;
         }
         self.budget.spend(self.rows.width() as u64);
@@ -73,8 +73,8 @@ impl<'a> Propagation<'a> {
         let earlier = self.log.operation(first);
         let later = self.log.operation(second);
         for process in ProcessId::first(self.rows.width()) {
-            let last = self.rows.last_up_to(first, earlier, process);
-            let next = self.rows.first_from(second, later, process);
+            let last = self.rows.nearest(RowKind::Before, first, earlier, process);
+            let next = self.rows.nearest(RowKind::After, second, later, process);
             if last != ProcessPlace::START && next <= last {
                 return true;
             }
@@ -122,17 +122,17 @@ impl<'a> Propagation<'a> {
             && self.sources.count(number) == 1
             && !self.agenda.waits(number);
         let mut has_news = !is_quiet;
-        for entry in 0..self.rows.floors() {
-            let floor = self.rows.floor(entry);
+        for entry in 0..self.rows.floors().count() {
+            let floor = self.rows.floors().entry(entry);
             let old = self.rows.before(number, floor.process);
             if old < floor.place {
                 has_news = has_news
                     || self.is_accessed(operation.location, floor.process, old.next(), floor.place);
-                self.rows.raise(number, floor)?;
+                self.rows.change(RowKind::Before, number, floor)?;
             }
         }
         self.budget
-            .spend((self.rows.floors() as u64).wrapping_mul(4));
+            .spend((self.rows.floors().count() as u64).wrapping_mul(4));
         self.wake_raised(number, operation, has_news);
         Ok(())
     }
@@ -144,8 +144,8 @@ impl<'a> Propagation<'a> {
     fn lower_row(&mut self, number: OperationId) -> Result<(), AllocError> {
         let operation = self.log.operation(number);
         let mut has_news = !operation.writes;
-        for entry in 0..self.rows.ceilings() {
-            let ceiling = self.rows.ceiling(entry);
+        for entry in 0..self.rows.ceilings().count() {
+            let ceiling = self.rows.ceilings().entry(entry);
             let old = self.rows.after(number, ceiling.process);
             if old > ceiling.place {
                 has_news = has_news
@@ -155,11 +155,11 @@ impl<'a> Propagation<'a> {
                         ceiling.place,
                         old.previous(),
                     );
-                self.rows.lower(number, ceiling)?;
+                self.rows.change(RowKind::After, number, ceiling)?;
             }
         }
         self.budget
-            .spend((self.rows.ceilings() as u64).wrapping_mul(4));
+            .spend((self.rows.ceilings().count() as u64).wrapping_mul(4));
         self.wake_lowered(number, operation, has_news);
         Ok(())
     }

@@ -9,7 +9,7 @@
 use crate::conflict::{Conflict, Stop};
 use crate::propagation::Propagation;
 use numbered_log::{NOBODY, OperationId, ProcessId, ProcessPlace};
-use possible_sources::LossCause;
+use possible_sources::{HidingQuery, LossCause, LostPart};
 use std::alloc::AllocError;
 use total_tables::{at, first_place};
 
@@ -48,9 +48,8 @@ impl<'a> Propagation<'a> {
         for process in ProcessId::first(self.rows.width()) {
             let place = self.rows.before(reader, process);
             if place != ProcessPlace::START {
-                let found = self
-                    .accesses
-                    .previous(process, operation.location, operation.needed, place);
+                let query = HidingQuery::of_read(process, operation);
+                let found = self.accesses.previous(query, place);
                 if found != ProcessPlace::START {
                     let hider = self.log.number(process, found);
                     self.hiders.push(hider)?;
@@ -76,14 +75,16 @@ impl<'a> Propagation<'a> {
             low = self.first_behind(low, high, floor);
             let writer = self.classes.writer(low.wrapping_sub(1));
             let cause = self.cause_of(writer, witness);
-            self.sources.hide_before(reader, run, low, cause)?;
+            self.sources
+                .narrow(reader, run, LostPart::Before(low), cause)?;
         }
         let ceiling = self.rows.after(reader, process);
         if low < high && self.place_at(high.wrapping_sub(1)) >= ceiling {
             high = self.first_behind(low, high, ceiling.previous());
             let writer = self.classes.writer(high);
             let cause = self.cause_of(writer, reader);
-            self.sources.end_before(reader, run, high, cause)?;
+            self.sources
+                .narrow(reader, run, LostPart::From(high), cause)?;
         }
         Ok(high.saturating_sub(low))
     }

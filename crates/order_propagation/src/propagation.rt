@@ -5,7 +5,9 @@ use crate::conflict::{Conflict, Propagated, Stop};
 use crate::reach::Reach;
 use closed_rows::{ClosedRows, NO_PAIR, OrderedPair, OrderedPairs, PairReason};
 use numbered_log::{Budget, LocationId, NOBODY, NumberedLog, OperationId, ProcessPlace};
-use possible_sources::{HidingAccesses, ReaderClasses, SourceIntervals, Time, ValueClasses};
+use possible_sources::{
+    HidingAccesses, HidingQuery, ReaderClasses, SourceIntervals, Time, ValueClasses,
+};
 use std::alloc::{AllocError, Global};
 use total_tables::{at, put, size};
 
@@ -176,7 +178,8 @@ impl<'a> Propagation<'a> {
             }
             for process in log.process_ids() {
                 let last = log.last_place(process);
-                let place = self.accesses.previous(process, location, value, last);
+                let query = HidingQuery::new(process, location, value);
+                let place = self.accesses.previous(query, last);
                 if place != ProcessPlace::START {
                     let number = log.number(process, place);
                     put(self.is_near_end.as_mut_slice(), number.number(), true);

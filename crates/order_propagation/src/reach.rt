@@ -4,7 +4,7 @@
 //! stands before o, or `START`, and `rows.after(o, p)` that of the first one that stands after it, or the place behind the last of p.
 
 use crate::propagation::Propagation;
-use closed_rows::RowEntry;
+use closed_rows::{RowEntry, RowKind};
 use numbered_log::{Fronts, Operation, OperationId, ProcessId, ProcessPlace};
 use std::alloc::{AllocError, Global};
 
@@ -96,7 +96,8 @@ impl<'a> Propagation<'a> {
         for process in ProcessId::first(self.rows.width()) {
             let place = self.rows.before(earlier, process);
             if process != own && place > self.rows.before(number, process) {
-                self.rows.raise(number, RowEntry { process, place })?;
+                self.rows
+                    .change(RowKind::Before, number, RowEntry { process, place })?;
             }
         }
         self.budget.spend(self.rows.width() as u64);

@@ -9,8 +9,9 @@
 
 use crate::conflict::{Conflict, Stop};
 use crate::propagation::Propagation;
-use closed_rows::PairReason;
+use closed_rows::{PairReason, RowKind};
 use numbered_log::{LocationId, NOBODY, OperationId, ProcessId, ProcessPlace};
+use possible_sources::{HidingQuery, LostPart};
 use std::alloc::AllocError;
 use total_tables::{at, put};
 
@@ -40,12 +41,8 @@ impl<'a> Propagation<'a> {
     fn follow_initial(&mut self, reader: OperationId) -> Result<(), Stop> {
         let operation = self.log.operation(reader);
         for process in ProcessId::first(self.rows.width()) {
-            let place = self.accesses.next(
-                process,
-                operation.location,
-                operation.needed,
-                ProcessPlace::FIRST,
-            );
+            let query = HidingQuery::of_read(process, operation);
+            let place = self.accesses.next(query, ProcessPlace::FIRST);
             self.add_behind(reader, process, place)?;
         }
         Ok(())
@@ -61,9 +58,8 @@ impl<'a> Propagation<'a> {
         for process in ProcessId::first(self.rows.width()) {
             let from = self.rows.after(source, process);
             if from < self.rows.after(reader, process) {
-                let place = self
-                    .accesses
-                    .next(process, operation.location, operation.needed, from);
+                let query = HidingQuery::of_read(process, operation);
+                let place = self.accesses.next(query, from);
                 self.add_behind(reader, process, place)?;
             }
         }
@@ -75,12 +71,11 @@ impl<'a> Propagation<'a> {
         let operation = self.log.operation(reader);
         let writer = self.log.operation(source);
         for process in ProcessId::first(self.rows.width()) {
-            let known = self.rows.last_up_to(source, writer, process);
+            let known = self.rows.nearest(RowKind::Before, source, writer, process);
             let place = self.rows.before(reader, process);
             if place > known {
-                let found = self
-                    .accesses
-                    .previous(process, operation.location, operation.needed, place);
+                let query = HidingQuery::of_read(process, operation);
+                let found = self.accesses.previous(query, place);
                 if found > known {
                     let access = self.log.number(process, found);
                     if access != source && !self.stands_before(access, source) {
@@ -185,9 +180,8 @@ impl<'a> Propagation<'a> {
             }
             let high = self.common_high(process);
             if high < self.rows.after(reader, process) {
-                let place = self
-                    .accesses
-                    .next(process, operation.location, operation.needed, high);
+                let query = HidingQuery::of_read(process, operation);
+                let place = self.accesses.next(query, high);
                 self.add_behind(reader, process, place)?;
             }
         }
@@ -211,8 +205,8 @@ impl<'a> Propagation<'a> {
                     only = writer;
                 } else {
                     let cause = self.cause_of(writer, witness);
-                    self.sources
-                        .hide_before(reader, run, low.wrapping_add(1), cause)?;
+                    let hidden = LostPart::Before(low.wrapping_add(1));
+                    self.sources.narrow(reader, run, hidden, cause)?;
                 }
             }
         }
@@ -239,7 +233,8 @@ impl<'a> Propagation<'a> {
         };
         for process in ProcessId::first(self.rows.width()) {
             let last = self.log.last_place(process);
-            let place = self.accesses.previous(process, location, value, last);
+            let query = HidingQuery::new(process, location, value);
+            let place = self.accesses.previous(query, last);
             if place != ProcessPlace::START {
                 let access = self.log.number(process, place);
                 self.hiders.push(access)?;

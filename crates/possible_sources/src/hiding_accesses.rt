@@ -1,8 +1,34 @@
 //! The accesses of a location that can hide a source from a reader.
 
-use numbered_log::{LocationId, NumberedLog, OperationId, ProcessId, ProcessPlace};
+use numbered_log::{LocationId, NumberedLog, Operation, OperationId, ProcessId, ProcessPlace};
 use std::alloc::{AllocError, Global};
-use total_tables::{at, first_place, put, sum_up};
+use total_tables::{at, cell, first_place, put, sum_up};
+
+/// The accesses that are looked for: those of the process to the location that are no plain read of the value.
+#[derive(Clone, Copy)]
+pub struct HidingQuery {
+    process: ProcessId,
+    location: LocationId,
+    value: u64,
+}
+
+impl HidingQuery {
+    /// Those of this process, location and value.
+    #[inline(always)]
+    pub fn new(process: ProcessId, location: LocationId, value: u64) -> HidingQuery {
+        HidingQuery {
+            process,
+            location,
+            value,
+        }
+    }
+
+    /// Those of the process that can hide a source from this reading operation.
+    #[inline(always)]
+    pub fn of_read(process: ProcessId, operation: Operation) -> HidingQuery {
+        HidingQuery::new(process, operation.location, operation.needed)
+    }
+}
 
 /// For each process and location the places of the accesses that can hide a source, rising: writers, and plain reads that have several
 /// possible sources. What such a read of another value reads was written in between. A plain read of one source hides no more than what
@@ -61,10 +87,7 @@ impl HidingAccesses {
     /// The number of the process and the location among all pairs of these.
     #[inline(always)]
     fn pair_of(&self, process: ProcessId, location: LocationId) -> u32 {
-        process
-            .number()
-            .wrapping_mul(self.locations)
-            .wrapping_add(location.number())
+        cell(process.number(), self.locations, location.number())
     }
 
     /// Counts the access two places further on: summed up, the entry one place on is where its accesses begin, and `enter` moves that on to their
@@ -98,11 +121,12 @@ impl HidingAccesses {
         let (begin, end) = self.entries(pair);
         for entry in begin..end {
             let mut other = at(self.places.as_slice(), entry, ProcessPlace::START);
-            if self.value(entry).is_some() {
+            let value = self.value(entry);
+            if value.is_some() {
                 other = ProcessPlace::START;
                 if entry > begin {
                     let previous = entry.wrapping_sub(1);
-                    other = self.linked(entry, previous, self.others_before.as_slice());
+                    other = self.unless_read(previous, value, self.others_before.as_slice());
                 }
             }
             put(self.others_before.as_mut_slice(), entry, other);
@@ -110,23 +134,25 @@ impl HidingAccesses {
         for back in begin..end {
             let entry = end.wrapping_sub(1).wrapping_sub(back.wrapping_sub(begin));
             let mut other = at(self.places.as_slice(), entry, ProcessPlace::START);
-            if self.value(entry).is_some() {
+            let value = self.value(entry);
+            if value.is_some() {
                 other = ProcessPlace::FAR;
                 let next = entry.wrapping_add(1);
                 if next < end {
-                    other = self.linked(entry, next, self.others_behind.as_slice());
+                    other = self.unless_read(next, value, self.others_behind.as_slice());
                 }
             }
             put(self.others_behind.as_mut_slice(), entry, other);
         }
     }
 
-    /// The place of the neighbour, or what it is linked to if both read one value.
-    fn linked(&self, entry: u32, neighbour: u32, links: &[ProcessPlace]) -> ProcessPlace {
-        if self.value(neighbour) == self.value(entry) {
-            at(links, neighbour, ProcessPlace::START)
+    /// The place of the entry, or what it is linked to if it is a plain read of this value.
+    #[inline(always)]
+    fn unless_read(&self, entry: u32, value: Option<u64>, links: &[ProcessPlace]) -> ProcessPlace {
+        if self.value(entry) == value {
+            at(links, entry, ProcessPlace::START)
         } else {
-            at(self.places.as_slice(), neighbour, ProcessPlace::START)
+            at(self.places.as_slice(), entry, ProcessPlace::START)
         }
     }
 
@@ -163,44 +189,26 @@ impl HidingAccesses {
         })
     }
 
-    /// The place of the process's last access of the location up to this place that is no plain read of the value, or `START`.
+    /// The place of the last of these accesses up to this place, or `START`.
     #[inline(always)]
-    pub fn previous(
-        &self,
-        process: ProcessId,
-        location: LocationId,
-        value: u64,
-        place: ProcessPlace,
-    ) -> ProcessPlace {
-        let (begin, end) = self.entries(self.pair_of(process, location));
+    pub fn previous(&self, query: HidingQuery, place: ProcessPlace) -> ProcessPlace {
+        let (begin, end) = self.entries(self.pair_of(query.process, query.location));
         let behind = self.first_from(begin, end, place.ahead(1));
         if behind <= begin {
             return ProcessPlace::START;
         }
-        let entry = behind.wrapping_sub(1);
-        if self.value(entry) == Some(value) {
-            at(self.others_before.as_slice(), entry, ProcessPlace::START)
-        } else {
-            at(self.places.as_slice(), entry, ProcessPlace::START)
-        }
+        let last = behind.wrapping_sub(1);
+        self.unless_read(last, Some(query.value), self.others_before.as_slice())
     }
 
-    /// The place of the process's first access of the location from this place on that is no plain read of the value, or `FAR`.
+    /// The place of the first of these accesses from this place on, or `FAR`.
     #[inline(always)]
-    pub fn next(
-        &self,
-        process: ProcessId,
-        location: LocationId,
-        value: u64,
-        place: ProcessPlace,
-    ) -> ProcessPlace {
-        let Some(entry) = self.next_entry(process, location, place) else {
-            return ProcessPlace::FAR;
-        };
-        if self.value(entry) == Some(value) {
-            at(self.others_behind.as_slice(), entry, ProcessPlace::FAR)
-        } else {
-            at(self.places.as_slice(), entry, ProcessPlace::FAR)
+    pub fn next(&self, query: HidingQuery, place: ProcessPlace) -> ProcessPlace {
+        match self.next_entry(query.process, query.location, place) {
+            Some(entry) => {
+                self.unless_read(entry, Some(query.value), self.others_behind.as_slice())
+            }
+            None => ProcessPlace::FAR,
         }
     }
 

@@ -6,14 +6,17 @@
 
 mod earlier_sources;
 mod hiding_accesses;
+mod interval_ends;
 mod reader_classes;
 mod source_intervals;
 mod time;
 mod value_classes;
 
 pub use earlier_sources::{EarlierBound, EarlierSources};
-pub use hiding_accesses::HidingAccesses;
+pub use hiding_accesses::{HidingAccesses, HidingQuery};
 pub use reader_classes::ReaderClasses;
-pub use source_intervals::{INITIAL_VALUE, LossCause, LostBound, SourceIntervals, SourceLoss};
+pub use source_intervals::{
+    INITIAL_VALUE, LossCause, LostBound, LostPart, SourceIntervals, SourceLoss,
+};
 pub use time::Time;
 pub use value_classes::{ClassId, ClassIds, ValueClasses};

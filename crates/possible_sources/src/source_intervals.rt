@@ -3,6 +3,7 @@
 //! Writers are sorted by their class, which is a location and a value, then by process and place. A position is a place in this table, from 0; a run is
 //! what one process has of a class. A reader has an interval of positions for each run of its class, numbered from 0, whose upper end is excluded.
 
+use crate::interval_ends::IntervalEnds;
 use crate::time::Time;
 use crate::value_classes::{ClassId, ValueClasses};
 use numbered_log::{
@@ -66,6 +67,15 @@ const NO_LOSS: SourceLoss = SourceLoss {
     previous: NO_NUMBER,
 };
 
+/// The writers that an interval loses.
+#[derive(Clone, Copy)]
+pub enum LostPart {
+    /// Those before this position.
+    Before(u32),
+    /// Those from this position on.
+    From(u32),
+}
+
 /// For each reader, which is an operation or, behind all operations, the final value of a location, its possible sources: of each process
 /// that writes its value an interval of the positions of a run of writers, since rows rise along a process; and maybe the initial value. So
 /// tables have an entry for each reader and process, and not for each source.
@@ -77,12 +87,8 @@ pub struct SourceIntervals {
     /// For each reader its class, if it has one.
     classes: Vec<ClassId>,
     /// For each interval its first position among the writers of `ValueClasses`, and the one behind its last. An interval is empty if they are equal.
-    lows: Vec<u32>,
-    highs: Vec<u32>,
-    /// For each interval the number of its last loss at the lower end, or `NO_NUMBER`.
-    hidden: Vec<u32>,
-    /// The same at the upper end.
-    late: Vec<u32>,
+    lows: IntervalEnds,
+    highs: IntervalEnds,
     /// For each reader whether the initial value is possible by program order and origins. A later loss leaves that as it is.
     is_initial: Vec<bool>,
     /// For each reader the number of the loss of the initial value, or `NO_NUMBER`.
@@ -102,8 +108,6 @@ impl Drop for SourceIntervals {
             classes: _classes,
             lows: _lows,
             highs: _highs,
-            hidden: _hidden,
-            late: _late,
             is_initial: _is_initial,
             initial_losses: _initial_losses,
             counts: _counts,
@@ -158,10 +162,8 @@ impl SourceIntervals {
             operations: log.count(),
             begins: Vec::new(alloc),
             classes: vec![in alloc; ClassId::NONE; readers as usize]?,
-            lows: Vec::new(alloc),
-            highs: Vec::new(alloc),
-            hidden: Vec::new(alloc),
-            late: Vec::new(alloc),
+            lows: IntervalEnds::new(alloc),
+            highs: IntervalEnds::new(alloc),
             is_initial: vec![in alloc; false; readers as usize]?,
             initial_losses: vec![in alloc; NO_NUMBER; readers as usize]?,
             counts: vec![in alloc; NO_NUMBER; readers as usize]?,
@@ -170,7 +172,7 @@ impl SourceIntervals {
         for reader in OperationId::first(readers) {
             sources.enter(log, classes, reader)?;
         }
-        let end = size(sources.lows.as_slice());
+        let end = sources.lows.count();
         sources.begins.push(end)?;
         Ok(sources)
     }
@@ -182,7 +184,7 @@ impl SourceIntervals {
         classes: &ValueClasses,
         reader: OperationId,
     ) -> Result<(), AllocError> {
-        let begin = size(self.lows.as_slice());
+        let begin = self.lows.count();
         self.begins.push(begin)?;
         let Some((location, value)) = self.reads(log, reader) else {
             return Ok(());
@@ -194,10 +196,8 @@ impl SourceIntervals {
         let mut count = initial as u32;
         for run in 0..classes.run_count(class) {
             let run = classes.first_run(class).wrapping_add(run);
-            self.lows.push(classes.begin(run))?;
-            self.highs.push(classes.end(run))?;
-            self.hidden.push(NO_NUMBER)?;
-            self.late.push(NO_NUMBER)?;
+            self.lows.add(classes.begin(run))?;
+            self.highs.add(classes.end(run))?;
             count = count
                 .wrapping_add(classes.end(run))
                 .wrapping_sub(classes.begin(run));
@@ -283,18 +283,14 @@ impl SourceIntervals {
         writer: OperationId,
     ) {
         let interval = self.interval(reader, run);
-        let low = at(self.lows.as_slice(), interval, 0);
-        let high = at(self.highs.as_slice(), interval, 0);
+        let low = self.lows.position(interval);
+        let high = self.highs.position(interval);
         let position = classes.position_of(writer);
         if low <= position && position < high {
-            put(self.lows.as_mut_slice(), interval, position);
-            put(
-                self.highs.as_mut_slice(),
-                interval,
-                position.wrapping_add(1),
-            );
+            self.lows.set(interval, position);
+            self.highs.set(interval, position.wrapping_add(1));
         } else {
-            put(self.highs.as_mut_slice(), interval, low);
+            self.highs.set(interval, low);
         }
     }
 
@@ -384,13 +380,13 @@ impl SourceIntervals {
     /// The first position of the interval.
     #[inline(always)]
     pub fn low(&self, reader: OperationId, run: u32) -> u32 {
-        at(self.lows.as_slice(), self.interval(reader, run), 0)
+        self.lows.position(self.interval(reader, run))
     }
 
     /// The position behind the interval.
     #[inline(always)]
     pub fn high(&self, reader: OperationId, run: u32) -> u32 {
-        at(self.highs.as_slice(), self.interval(reader, run), 0)
+        self.highs.position(self.interval(reader, run))
     }
 
     /// Returns whether it reads anything.
@@ -458,49 +454,24 @@ impl SourceIntervals {
         put(self.counts.as_mut_slice(), reader.number(), count);
     }
 
-    /// Moves the first position of an interval: the writers before it are hidden.
-    pub fn hide_before(
+    /// Takes writers from an interval: those before a position, which are hidden, or those from a position on, which stand after the reader.
+    pub fn narrow(
         &mut self,
         reader: OperationId,
         run: u32,
-        low: u32,
+        lost: LostPart,
         cause: LossCause,
     ) -> Result<(), AllocError> {
         let interval = self.interval(reader, run);
-        let previous = at(self.hidden.as_slice(), interval, NO_NUMBER);
-        let old_bound = at(self.lows.as_slice(), interval, 0);
         let number = self.losses();
-        put(self.hidden.as_mut_slice(), interval, number);
-        put(self.lows.as_mut_slice(), interval, low);
+        let (bound, (old_bound, previous)) = match lost {
+            LostPart::Before(low) => (LostBound::Hidden, self.lows.lose(interval, low, number)),
+            LostPart::From(high) => (LostBound::Late, self.highs.lose(interval, high, number)),
+        };
         self.note_loss(SourceLoss {
             reader,
             interval,
-            bound: LostBound::Hidden,
-            cause,
-            old_bound,
-            old_count: 0,
-            previous,
-        })
-    }
-
-    /// Moves the position behind an interval: the writers from it on stand after the reader.
-    pub fn end_before(
-        &mut self,
-        reader: OperationId,
-        run: u32,
-        high: u32,
-        cause: LossCause,
-    ) -> Result<(), AllocError> {
-        let interval = self.interval(reader, run);
-        let previous = at(self.late.as_slice(), interval, NO_NUMBER);
-        let old_bound = at(self.highs.as_slice(), interval, 0);
-        let number = self.losses();
-        put(self.late.as_mut_slice(), interval, number);
-        put(self.highs.as_mut_slice(), interval, high);
-        self.note_loss(SourceLoss {
-            reader,
-            interval,
-            bound: LostBound::Late,
+            bound,
             cause,
             old_bound,
             old_count: 0,
@@ -552,12 +523,11 @@ impl SourceIntervals {
     fn undo(&mut self, loss: SourceLoss) {
         match loss.bound {
             LostBound::Hidden => {
-                put(self.hidden.as_mut_slice(), loss.interval, loss.previous);
-                put(self.lows.as_mut_slice(), loss.interval, loss.old_bound);
+                self.lows.lose(loss.interval, loss.old_bound, loss.previous);
             }
             LostBound::Late => {
-                put(self.late.as_mut_slice(), loss.interval, loss.previous);
-                put(self.highs.as_mut_slice(), loss.interval, loss.old_bound);
+                self.highs
+                    .lose(loss.interval, loss.old_bound, loss.previous);
             }
             LostBound::Initial => {
                 put(
@@ -573,13 +543,13 @@ impl SourceIntervals {
     /// The number of the last loss at the lower bound of the interval, or `NO_NUMBER`.
     #[inline(always)]
     pub fn last_hidden(&self, interval: u32) -> u32 {
-        at(self.hidden.as_slice(), interval, NO_NUMBER)
+        self.lows.last_loss(interval)
     }
 
     /// The number of the last loss at the upper bound of the interval, or `NO_NUMBER`.
     #[inline(always)]
     pub fn last_late(&self, interval: u32) -> u32 {
-        at(self.late.as_slice(), interval, NO_NUMBER)
+        self.highs.last_loss(interval)
     }
 
     /// The number of the loss of the reader's initial value, or `NO_NUMBER`.
@@ -588,14 +558,14 @@ impl SourceIntervals {
         at(self.initial_losses.as_slice(), reader.number(), NO_NUMBER)
     }
 
-    #[inline(always)]
-    pub fn loss(&self, number: u32) -> SourceLoss {
-        at(self.losses.as_slice(), number, NO_LOSS)
-    }
-
     /// Returns whether the initial value was a possible source by program order.
     pub fn had_initial(&self, reader: OperationId) -> bool {
         at(self.is_initial.as_slice(), reader.number(), false)
+    }
+
+    #[inline(always)]
+    pub fn loss(&self, number: u32) -> SourceLoss {
+        at(self.losses.as_slice(), number, NO_LOSS)
     }
 }
 

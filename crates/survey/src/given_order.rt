@@ -6,7 +6,7 @@
 
 use closed_rows::{ClosedRows, OrderedPairs, PairReason, Sweeps, close_rows};
 use numbered_log::{Budget, LocationId, NOBODY, NumberedLog, OperationId, ProcessId, ProcessPlace};
-use possible_sources::{HidingAccesses, LossCause, SourceIntervals, Time, ValueClasses};
+use possible_sources::{HidingAccesses, LossCause, LostPart, SourceIntervals, Time, ValueClasses};
 use std::alloc::{AllocError, Global};
 use total_tables::{first_place, put};
 
@@ -114,11 +114,13 @@ impl<'a> GivenOrder<'a> {
         let high = self.sources.high(reader, run);
         let first = self.first_visible(reader, low, high);
         if first > low {
-            self.sources.hide_before(reader, run, first, BY_THE_ORDER)?;
+            let hidden = LostPart::Before(first);
+            self.sources.narrow(reader, run, hidden, BY_THE_ORDER)?;
         }
         let end = self.first_late(reader, first, high);
         if end < high {
-            self.sources.end_before(reader, run, end, BY_THE_ORDER)?;
+            let late = LostPart::From(end);
+            self.sources.narrow(reader, run, late, BY_THE_ORDER)?;
         }
         Ok(())
     }
@@ -148,8 +150,8 @@ impl<'a> GivenOrder<'a> {
                 && self.later_writer(location, writer).is_some()
             {
                 // An interval of a final value has one writer, the last of its process, so this empties it.
-                let end = low.wrapping_add(1);
-                self.sources.hide_before(reader, run, end, BY_THE_ORDER)?;
+                let hidden = LostPart::Before(low.wrapping_add(1));
+                self.sources.narrow(reader, run, hidden, BY_THE_ORDER)?;
             }
         }
         Ok(())

@@ -37,6 +37,12 @@ pub fn piece<T>(table: &[T], from: u32, to: u32) -> &[T] {
     }
 }
 
+/// Returns the place of an entry in a table of rows of this width, which stand one after the other.
+#[inline(always)]
+pub fn cell(row: u32, width: u32, column: u32) -> u32 {
+    row.wrapping_mul(width).wrapping_add(column)
+}
+
 /// Returns the number of entries, at most the largest `u32`.
 #[inline(always)]
 pub fn size<T>(table: &[T]) -> u32 {
