@@ -2,7 +2,8 @@
 
 use std::alloc::Global;
 
-/// What a run of the program is given beside its words, files and streams, and does not change.
+/// What a run of the program is given beside its words, files and streams, and does not change. The host, whose files change, is passed beside it: a `&mut` field
+/// of a struct that is lent cannot be lent on to an engine.
 #[derive(Drop)]
 pub struct ProgramRun<'a, R, G> {
     /// Where memory is taken.

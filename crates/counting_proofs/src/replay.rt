@@ -61,7 +61,7 @@ impl Replay {
     }
 
     /// Returns `NEVER` if all literals of the clause are false, and its literal if exactly one is open. Returns `None` if a literal is
-    /// true, or if two are open.
+    /// true, or if two are open. Notes ask the same of the literals of a text (`known_literals`); a clause here has three codes, of which `NEVER` fills up.
     fn unit_or_conflict(&self, known: ShortClause) -> Option<LiteralCode> {
         let mut left = NEVER;
         for literal in known.literals {

@@ -162,23 +162,22 @@ impl CountRow {
         Ok(())
     }
 
-    /// The clauses from which that of a literal at the border follows: a clause of a definition, and what is known of the source from this reader and
-    /// from the row before, whose clauses are `one_fewer` at the first of the counts and `without_last` at the second.
+    /// The clauses from which that of a literal at the border follows: a clause of a definition, what is known of the source from this reader, and from the row
+    /// before its clauses `one_fewer` and `without_last` for the source.
     fn border_hints(
         &self,
         taken: &Taken,
-        before: &CountRow,
         definition: ShortClause,
         source: u32,
-        one_fewer_at: u32,
-        without_last_at: u32,
+        one_fewer: ShortClause,
+        without_last: ShortClause,
     ) -> [ShortClause; 5] {
         [
-            before.one_fewer.get(source, one_fewer_at),
+            one_fewer,
             definition,
             self.served_only(source),
             taken.exclusion(self.reader, source),
-            before.without_last.get(source, without_last_at),
+            without_last,
         ]
     }
 
@@ -203,7 +202,9 @@ impl CountRow {
                 NEVER,
             ];
             let definition = self.clause(next, more, NEEDS_SOURCE);
-            let hints = self.border_hints(taken, before, definition, next, more, count);
+            let one_fewer = before.one_fewer.get(next, more);
+            let without_last = before.without_last.get(next, count);
+            let hints = self.border_hints(taken, definition, next, one_fewer, without_last);
             let known = writer.derive(literals, &hints)?;
             self.set_border(source, count, NEEDS_SOURCE, known);
         }
@@ -228,7 +229,9 @@ impl CountRow {
                 NEVER,
             ];
             let definition = self.clause(previous, source, BY_SOURCE);
-            let hints = self.border_hints(taken, before, definition, source, source, source);
+            let one_fewer = before.one_fewer.get(source, source);
+            let without_last = before.without_last.get(source, source);
+            let hints = self.border_hints(taken, definition, source, one_fewer, without_last);
             let known = writer.derive(literals, &hints)?;
             self.set_border(source, source.wrapping_add(1), BY_SOURCE, known);
         }

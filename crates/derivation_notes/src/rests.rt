@@ -72,10 +72,9 @@ impl Rests {
         }
     }
 
-    /// Marks the operations of which the marked clauses say something but that they stand in program order or in an order. Clauses of these two
-    /// kinds stand at the front of the formula, before what is read.
+    /// Marks the operations of which the marked clauses say something but that they stand in program order or in an order.
     fn add_operations(&mut self, clauses: &TraceClauses, meanings: &ClauseRuns<'_>) {
-        for place in clauses.reads_start()..clauses.count() {
+        for place in 0..clauses.count() {
             if self.clauses.get(place).copied().unwrap_or(false) {
                 if let Some(meaning) = meanings.meaning_at(place) {
                     self.add_meaning(meaning);

@@ -4,7 +4,7 @@
 
 use crate::contradiction::contradicting;
 use crate::given_order::GivenOrder;
-use crate::part::Chosen;
+use crate::log_part::Chosen;
 use crate::shrinking::Core;
 use numbered_log::{Budget, OperationId};
 use std::alloc::{AllocError, Global};

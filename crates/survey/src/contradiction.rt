@@ -4,7 +4,7 @@
 //! the operations of other cores has a contradiction too. Both make the part of what they get and refute it again before they use it.
 
 use crate::given_order::GivenOrder;
-use crate::part::{Chosen, part_of};
+use crate::log_part::{Chosen, log_part_of};
 use conflict_analysis::core_of_conflict;
 use numbered_log::{Budget, NumberedLog, OperationId};
 use order_propagation::{Propagated, Propagation};
@@ -26,7 +26,7 @@ pub fn contradicting(
     chosen: &Chosen,
     budget: &mut Budget,
 ) -> Result<Option<Vec<OperationId>>, AllocError> {
-    let part = part_of(alloc, forced, operations, chosen, budget)?;
+    let part = log_part_of(alloc, forced, operations, chosen, budget)?;
     let mut order = Propagation::new(alloc, &part.log, *budget)?;
     let outcome = order.propagate_in_rounds()?;
     let mut core = None;

@@ -11,7 +11,7 @@ mod engine_reasons;
 mod finding;
 mod given_order;
 mod local_reads;
-mod part;
+mod log_part;
 mod purse;
 mod shrinking;
 

@@ -5,7 +5,7 @@
 
 use crate::contradiction::{contradicting, is_refuted};
 use crate::given_order::GivenOrder;
-use crate::part::{Chosen, LogPart, has_all_sources, part_of};
+use crate::log_part::{Chosen, LogPart, has_all_sources, log_part_of};
 use numbered_log::{
     Budget, LocationId, NumberedOrigin, Operation, OperationId, ProcessId, ProcessPlace,
 };
@@ -60,7 +60,7 @@ impl<'a> Core<'a> {
 
     /// Returns whether saturation finds a contradiction in the part. If `walks` is set, a walk over it decides instead.
     pub fn is_refuted(&self, budget: &mut Budget) -> Result<bool, AllocError> {
-        let part = part_of(
+        let part = log_part_of(
             self.alloc,
             self.forced,
             self.operations.as_slice(),

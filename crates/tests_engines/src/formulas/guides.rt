@@ -10,6 +10,7 @@ use clause_blocks::trace_clauses::TraceClauses;
 use clause_meaning::clause_runs::ClauseRuns;
 use clause_meaning::meaning::ClauseMeaning;
 use dimacs::ClauseList;
+use order_sets::TripleIds;
 use solver::{EncodingHints, LastWriter, ReadsFromTable, ReadsFromVariable};
 use std::alloc::Global;
 use std::process::Abort;
@@ -27,6 +28,34 @@ fn names_transitivity(meanings: &ClauseRuns<'_>, count: usize, guide: EncodingHi
         };
         if is_named != is_one {
             return false;
+        }
+    }
+    true
+}
+
+/// Returns whether each clause of transitivity has the number that the search computes for the cycle that it forbids.
+fn numbers_cycles(meanings: &ClauseRuns<'_>, count: usize, ids: &TripleIds) -> bool {
+    for place in 0..count {
+        if let Some(
+            ClauseMeaning::NoCycle {
+                lowest,
+                middle,
+                highest,
+                is_second,
+            },
+        ) = meanings.meaning_at(place)
+        {
+            let first = u32::try_from(lowest).unwrap_or(0);
+            let second = u32::try_from(middle).unwrap_or(0);
+            let third = u32::try_from(highest).unwrap_or(0);
+            let number = if is_second {
+                ids.of_cycle(first, third, second)
+            } else {
+                ids.of_cycle(first, second, third)
+            };
+            if number as usize != place.wrapping_add(1) {
+                return false;
+            }
         }
     }
     true
@@ -118,7 +147,13 @@ fn assert_guided(rt: &impl Abort, alloc: Global, text: &str, choices: usize, las
     let reduced = reduced_of(rt, alloc, text);
     let list = ample(rt, TraceClauses::of(alloc, &reduced));
     let meanings = ample(rt, ClauseRuns::of(alloc, &list));
-    assert!(rt; names_transitivity(&meanings, list.count(), guide_to_order(&list)));
+    let guide = guide_to_order(&list);
+    assert!(rt; names_transitivity(&meanings, list.count(), guide));
+    let ids = ample(
+        rt,
+        TripleIds::new(alloc, guide.elements(), guide.first().number()),
+    );
+    assert!(rt; numbers_cycles(&meanings, list.count(), &ids));
     let table = ample(rt, reads_from_table(alloc, &list));
     assert!(rt; right_choices(&meanings, &table) == Some(choices));
     assert!(rt; right_last_writers(&meanings, &table) == Some(last_writers));

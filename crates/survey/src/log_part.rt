@@ -109,7 +109,7 @@ impl Drop for Renaming {
 
 /// The part of these operations, which stand by rising numbers and are those that are chosen. The order is the one that program order and
 /// pairs force, before anything else was derived: what follows from reads that the part loses does not hold in it.
-pub fn part_of(
+pub fn log_part_of(
     alloc: Global,
     order: &GivenOrder<'_>,
     operations: &[OperationId],
