@@ -20,3 +20,4 @@ mod shared_derivations;
 mod small_formulas;
 mod traced;
 mod whole_formulas;
+mod whole_sets;
