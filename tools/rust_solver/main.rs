@@ -293,6 +293,12 @@ fn search_on<'a>(
             return answer;
         }
     }
+    let found = seats.go_on(setting!("LAST_ROUNDS", u64, 64), report);
+    report.end("last");
+    let found = found.or_else(|| model_of(reduced, clauses, StateSearchKind::Patient, "patient", report));
+    if let Some(answer) = found {
+        return answer;
+    }
     let answer = seats.go_on(budget, report);
     report.end("seats");
     answer.unwrap_or(Answer::Open)

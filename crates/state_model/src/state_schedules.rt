@@ -18,6 +18,8 @@ pub enum StateSearchKind {
     Broad,
     /// It goes on from as many, but it matters little to it that a value has few spare times.
     Spendthrift,
+    /// It goes on from four times as many, and this matters half as much to it.
+    Patient,
 }
 
 /// The states of a layer times the number of processes: more processes have more that can come next, so fewer states make as much work. In a prototype
@@ -27,14 +29,23 @@ const NARROW_STATES: u32 = 2_400;
 /// The same of the broad searches, which take three times as long each.
 const BROAD_STATES: u32 = 8_000;
 
+/// The same of the patient one: with 4,000 states of a layer one of four traces that the others had left open was scheduled, in half a second.
+const PATIENT_STATES: u32 = 32_000;
+
 /// What a value costs over which no further plain write can come. In the prototype 1,000 states scheduled 63 traces with this weight, and 62 with half of it and with 300.
 const SPARE_WEIGHT: u32 = 200;
 
 /// The same where it matters less. By itself it scheduled fewer traces (60), but others.
 const SMALL_SPARE_WEIGHT: u32 = 10;
 
+/// The same of the patient search.
+const PATIENT_SPARE_WEIGHT: u32 = 100;
+
 /// The most looks of a search, a third of a second. One of 160 operations of eight processes on one location takes some 12 million with 1,000 states of a layer.
 const LOOKS: u64 = 32_000_000;
+
+/// The same of the patient search, a second.
+const PATIENT_LOOKS: u64 = 96_000_000;
 
 /// The number of processes that have operations.
 fn busy_processes(log: &NumberedLog) -> u32 {
@@ -53,12 +64,21 @@ fn breadth_of(log: &NumberedLog, kind: StateSearchKind) -> Breadth {
         StateSearchKind::Narrow => (NARROW_STATES, SPARE_WEIGHT),
         StateSearchKind::Broad => (BROAD_STATES, SPARE_WEIGHT),
         StateSearchKind::Spendthrift => (BROAD_STATES, SMALL_SPARE_WEIGHT),
+        StateSearchKind::Patient => (PATIENT_STATES, PATIENT_SPARE_WEIGHT),
     };
     // Without operations there is one state, whatever the breadth.
     let processes = busy_processes(log).max(1);
     Breadth {
         states: states / processes,
         spare_weight,
+    }
+}
+
+/// Returns how many looks a search of this kind may take.
+fn looks_of(kind: StateSearchKind) -> u64 {
+    match kind {
+        StateSearchKind::Narrow | StateSearchKind::Broad | StateSearchKind::Spendthrift => LOOKS,
+        StateSearchKind::Patient => PATIENT_LOOKS,
     }
 }
 
@@ -75,7 +95,7 @@ pub fn model_by_states(
     }
     let log = log_of(alloc, trace)?;
     let breadth = breadth_of(&log, kind);
-    match schedule_by_states(alloc, &log, breadth, Budget::new(LOOKS))? {
+    match schedule_by_states(alloc, &log, breadth, Budget::new(looks_of(kind)))? {
         Some(schedule) => Ok(Some(model_along(alloc, clauses, schedule.as_slice())?)),
         None => Ok(None),
     }

@@ -129,8 +129,11 @@ const BROAD_SEARCHES: [(u64, StateSearchKind); 2] = [
     (16, StateSearchKind::Spendthrift),
 ];
 
+/// The rounds between the last of these and the patient search, which takes half a second: a fourth of what all rounds take up to then.
+const ROUNDS_BEFORE_PATIENT: u64 = 64;
+
 /// Goes on where one search of the whole formula has stopped: a narrow search of the trace's states looks for a schedule, and then four searches go on until the
-/// budget is used up, between whose rounds broad searches of states look for one.
+/// budget is used up, between whose rounds broad searches of states look for one, and last a patient one.
 fn search_on<'a, R: Threads + Wait + Sync, G: Gate>(
     run: &SearchRun<'_, R, G>,
     kept: KeptTrace<'_>,
@@ -154,6 +157,13 @@ fn search_on<'a, R: Threads + Wait + Sync, G: Gate>(
         if let Some(model) = model_by_states(alloc, kept.trace, clauses, *kind)? {
             return Ok(Answer::Model(model));
         }
+    }
+    // It is not made if the conflicts are used up before: a small budget asks for a soon answer.
+    if let Some(answer) = seats.go_on(run, clauses, &tree, ROUNDS_BEFORE_PATIENT, budget)? {
+        return Ok(answer);
+    }
+    if let Some(model) = model_by_states(alloc, kept.trace, clauses, StateSearchKind::Patient)? {
+        return Ok(Answer::Model(model));
     }
     // Each round takes a conflict off the budget at least, so there is no further round after as many.
     let answer = seats.go_on(run, clauses, &tree, budget, budget)?;

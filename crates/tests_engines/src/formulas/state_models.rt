@@ -29,10 +29,11 @@ fn model_of(
     Some(model)
 }
 
-const ALL_KINDS: [StateSearchKind; 3] = [
+const ALL_KINDS: [StateSearchKind; 4] = [
     StateSearchKind::Narrow,
     StateSearchKind::Broad,
     StateSearchKind::Spendthrift,
+    StateSearchKind::Patient,
 ];
 
 #[test]
