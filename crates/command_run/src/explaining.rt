@@ -1,5 +1,5 @@
 //! The explanation of an answer or a refusal.
-ghost use Rattle.command_run.specs.CommandRun.{Adds, Takes, TellsEnded};
+ghost use Rattle.command_run.specs.CommandRun.{Adds, Takes, TellsEnded, TellsExplained};
 ghost use Rattle.verdict_report.specs.Runs.{sink_run};
 
 use crate::kept_run::KeptRun;
@@ -223,6 +223,22 @@ fn notes_of_run<O: Recalls>(
     notes_of(alloc, asked, ended.outcome, &written)
 }
 
+/// Reports a refusal on standard error, and explains the outcome there.
+fn tell_explained<O: Recalls, E: Sink>(
+    alloc: Global,
+    failed: Option<FailedFile<'_>>,
+    ended: EndedLine<'_, '_>,
+    out: &O,
+    kept: &KeptRun,
+    err: &mut E,
+)
+    ensures { TellsExplained (sink_run E.written E.failures err.old err.new) ended.entry.outcome.now }
+{
+    tell_outcome(ended.outcome, err);
+    let notes = notes_of_run(alloc, failed, ended, out, kept);
+    write_notes(notes.as_slice(), err);
+}
+
 /// Reports a refusal on standard error, and explains the outcome there if that is asked for.
 pub(crate) fn tell_ended<O: Recalls, E: Sink>(
     alloc: Global,
@@ -234,10 +250,10 @@ pub(crate) fn tell_ended<O: Recalls, E: Sink>(
 )
     ensures { TellsEnded ended.entry.explains (sink_run E.written E.failures err.old err.new) ended.entry.outcome.now }
 {
-    tell_outcome(ended.outcome, err);
     if ended.explains {
-        let notes = notes_of_run(alloc, failed, ended, out, kept);
-        write_notes(notes.as_slice(), err);
+        tell_explained(alloc, failed, ended, out, kept, err);
+    } else {
+        tell_outcome(ended.outcome, err);
     }
 }
 
