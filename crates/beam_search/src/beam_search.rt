@@ -461,14 +461,14 @@ impl<'a> BeamSearch<'a> {
             state = step / processes;
         }
         self.state = State::new(alloc, &self.classed, self.log.processes())?;
-        self.state.keeps_placed = true;
+        self.state.keep_placed();
         self.state.settle(&self.classed, self.rows)?;
         for entry in (0..size(ways.as_slice())).rev() {
             let process = at(ways.as_slice(), entry, ProcessId::FIRST);
             let number = self.state.next(&self.classed, process);
             self.place(process, number, 0)?;
         }
-        self.schedule = Vec::from_slice(alloc, self.state.placed.as_slice())?;
+        self.schedule = Vec::from_slice(alloc, self.state.placed())?;
         Ok(())
     }
 }

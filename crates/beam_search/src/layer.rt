@@ -91,7 +91,7 @@ impl Layer {
     /// Adds the state, given for each class what is left of it. All tables must have the sizes that the layer was made for: places of states are multiples
     /// of these.
     pub(crate) fn push(&mut self, state: &State, left_of: &[ClassLeft]) -> Result<(), AllocError> {
-        append(&mut self.fronts, state.fronts.as_slice())?;
+        append(&mut self.fronts, state.fronts.places())?;
         append(&mut self.held, state.held.as_slice())?;
         append(&mut self.left_of, left_of)?;
         self.gains.push(state.gain)?;
@@ -103,12 +103,10 @@ impl Layer {
     /// Makes the state that of this number. What is left of classes is loaded by `load_left_of`, and `placed` stays as it is.
     pub(crate) fn load(&self, number: u32, state: &mut State) {
         let fronts = number.wrapping_mul(self.processes);
-        copy_out(
-            self.fronts.as_slice(),
-            fronts,
-            &mut state.fronts,
-            ProcessPlace::START,
-        );
+        let end = fronts.saturating_add(self.processes);
+        state
+            .fronts
+            .load(piece(self.fronts.as_slice(), fronts, end));
         let held = number.wrapping_mul(self.locations);
         copy_out(self.held.as_slice(), held, &mut state.held, ClassId::NONE);
         state.gain = at(self.gains.as_slice(), number, 0);

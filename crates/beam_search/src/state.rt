@@ -5,9 +5,7 @@
 use crate::classed_log::ClassedLog;
 use crate::ways::Ways;
 use closed_rows::ClosedRows;
-use numbered_log::{
-    LocationId, LocationIds, NOBODY, OperationId, ProcessId, ProcessIds, ProcessPlace,
-};
+use numbered_log::{Fronts, LocationId, LocationIds, NOBODY, OperationId, ProcessId, ProcessIds};
 use possible_sources::ClassId;
 use std::alloc::{AllocError, Global};
 use total_tables::{at, put, size};
@@ -20,8 +18,8 @@ const UPDATE: i64 = 14;
 
 /// What is placed of each process, and what each location holds.
 pub(crate) struct State {
-    /// For each process the place of its next operation, from 1; the place behind the last one, if all are placed.
-    pub(crate) fronts: Vec<ProcessPlace>,
+    /// The place of a process of which all is placed is the one behind its last.
+    pub(crate) fronts: Fronts,
     /// For each location the class of what it holds. `ClassId::NONE` is what is held before the first write if the initial value is not known; no reader
     /// fits it.
     pub(crate) held: Vec<ClassId>,
@@ -30,8 +28,8 @@ pub(crate) struct State {
     pub(crate) ways: Ways,
     /// The operations that were placed, in their order, if they are kept. Layers do not have them, so a state that is loaded from one keeps what stands
     /// here. They are kept only while a schedule is read off.
-    pub(crate) placed: Vec<OperationId>,
-    pub(crate) keeps_placed: bool,
+    placed: Vec<OperationId>,
+    keeps_placed: bool,
 }
 
 /// Drops each table in one call. A derived `Drop` would drop each at every exit of a function that owns a state, which makes its proof longer.
@@ -56,13 +54,23 @@ impl State {
         processes: u32,
     ) -> Result<State, AllocError> {
         Ok(State {
-            fronts: vec![in alloc; ProcessPlace::FIRST; processes as usize]?,
+            fronts: Fronts::new(alloc, processes)?,
             held: Vec::from_slice(alloc, log.initial())?,
             gain: 0,
             ways: Ways::FIRST,
             placed: Vec::new(alloc),
             keeps_placed: false,
         })
+    }
+
+    /// The operations that were placed and kept, in their order.
+    pub(crate) fn placed(&self) -> &[OperationId] {
+        self.placed.as_slice()
+    }
+
+    /// Keeps the operations that are placed from now on.
+    pub(crate) fn keep_placed(&mut self) {
+        self.keeps_placed = true;
     }
 
     /// All processes, by rising numbers.
@@ -79,13 +87,7 @@ impl State {
 
     #[inline(always)]
     pub(crate) fn processes(&self) -> u32 {
-        size(self.fronts.as_slice())
-    }
-
-    /// The place of the process's next operation.
-    #[inline(always)]
-    pub(crate) fn front(&self, process: ProcessId) -> ProcessPlace {
-        at(self.fronts.as_slice(), process.number(), ProcessPlace::FAR)
+        size(self.fronts.places())
     }
 
     /// The class of what the location holds.
@@ -97,7 +99,7 @@ impl State {
     /// The process's next operation, or `NOBODY` if all are placed.
     #[inline(always)]
     pub(crate) fn next(&self, log: &ClassedLog, process: ProcessId) -> OperationId {
-        log.number(process, self.front(process))
+        log.number(process, self.fronts.of(process))
     }
 
     /// Returns whether the process's next operation can come: it reads what its location holds, and what is known to stand before it is placed.
@@ -122,7 +124,7 @@ impl State {
     /// Returns whether what is known to stand before the process's operation is placed.
     fn has_all_before(&self, rows: &ClosedRows, process: ProcessId, number: OperationId) -> bool {
         for other in self.process_ids() {
-            if other != process && rows.before(number, other) >= self.front(other) {
+            if other != process && rows.before(number, other) >= self.fronts.of(other) {
                 return false;
             }
         }
@@ -137,8 +139,8 @@ impl State {
         process: ProcessId,
         number: OperationId,
     ) -> Result<(), AllocError> {
-        let front = self.front(process).next();
-        put(self.fronts.as_mut_slice(), process.number(), front);
+        let front = self.fronts.of(process).next();
+        self.fronts.set(process, front);
         let left = log.left(number);
         if left == ClassId::NONE {
             self.gain = self.gain.wrapping_add(READ);
@@ -203,7 +205,7 @@ impl State {
     /// Returns whether all operations are placed, and the final values are as they have to be.
     pub(crate) fn is_complete(&self, log: &ClassedLog) -> bool {
         for process in self.process_ids() {
-            if self.front(process) <= log.last_place(process) {
+            if self.fronts.of(process) <= log.last_place(process) {
                 return false;
             }
         }
@@ -220,7 +222,7 @@ impl State {
     pub(crate) fn placed_in_all(&self) -> u32 {
         let mut placed: u32 = 0;
         for process in self.process_ids() {
-            placed = placed.wrapping_add(self.front(process).previous().number());
+            placed = placed.wrapping_add(self.fronts.of(process).previous().number());
         }
         placed
     }
@@ -229,7 +231,7 @@ impl State {
     #[inline(always)]
     pub(crate) fn left_of(&self, log: &ClassedLog, process: ProcessId) -> u64 {
         let end = log.length(process).wrapping_add(1);
-        end.saturating_sub(self.front(process).number()) as u64
+        end.saturating_sub(self.fronts.of(process).number()) as u64
     }
 
     /// The number of operations that are not placed.
@@ -252,7 +254,7 @@ impl State {
     pub(crate) fn mixed(&self) -> u64 {
         let mut mixed: u64 = 0x9e37_79b9_7f4a_7c15;
         for process in self.process_ids() {
-            mixed = mix(mixed, self.front(process).number());
+            mixed = mix(mixed, self.fronts.of(process).number());
         }
         for location in self.location_ids() {
             mixed = mix(mixed, self.held(location).number());

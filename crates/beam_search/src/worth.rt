@@ -47,7 +47,7 @@ impl State {
 
     /// The number of operations, up to a few, that the process can do next by itself from what memory holds. The known order is not heeded.
     fn free_operations(&self, log: &ClassedLog, process: ProcessId) -> u32 {
-        let front = self.front(process);
+        let front = self.fronts.of(process);
         for ahead in 0..MOST_FREE {
             let number = log.number(process, front.ahead(ahead));
             if number == NOBODY || !self.finds_its_value(log, number, ahead) {
@@ -89,7 +89,7 @@ impl State {
         let mut nearest = NO_NUMBER;
         for other in self.process_ids() {
             if other != process {
-                nearest = nearest.min(next.distance(other, self.front(other), needed));
+                nearest = nearest.min(next.distance(other, self.fronts.of(other), needed));
             }
         }
         nearest

@@ -78,7 +78,7 @@ pub struct Analysis {
     /// For each learned clause whether the last core rests on it.
     pub(crate) is_needed: Vec<bool>,
     /// Looks at entries that `take_steps` has not handed over yet.
-    pub(crate) steps: u64,
+    steps: u64,
 }
 
 /// Drops each table in one call. A derived `Drop` would drop each at every exit of a function that owns an analysis, which makes its proof longer.
@@ -180,6 +180,12 @@ impl Analysis {
         self.steps.saturating_add(self.search.steps()) > order.budget().left()
     }
 
+    /// Counts a look at an entry.
+    #[inline(always)]
+    pub(crate) fn count_look(&mut self) {
+        self.steps = self.steps.wrapping_add(1);
+    }
+
     /// The number of steps since it was last asked.
     pub fn take_steps(&mut self) -> u64 {
         let steps = self.steps.saturating_add(self.search.take_steps());
@@ -227,16 +233,8 @@ impl Analysis {
         second: OperationId,
         time: Time,
     ) -> Result<(), AllocError> {
-        let earlier = order.log().operation(first);
-        let later = order.log().operation(second);
-        let question = WayQuestion {
-            first,
-            second,
-            time,
-        };
-        if (earlier.process == later.process && earlier.place <= later.place)
-            || self.is_answered(question)
-        {
+        let question = WayQuestion::new(first, second, time);
+        if question.is_of_program_order(order.log()) || self.is_answered(question) {
             return Ok(());
         }
         let is_marked = self.is_marked.as_slice();
@@ -304,7 +302,7 @@ impl Analysis {
         let mut level: u32 = 0;
         let mut asserted = None;
         for number in (0..self.highest.wrapping_add(1)).rev() {
-            self.steps = self.steps.wrapping_add(1);
+            self.count_look();
             if !at(self.is_marked.as_slice(), number, false) {
                 continue;
             }

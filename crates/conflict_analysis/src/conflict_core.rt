@@ -37,7 +37,7 @@ impl Analysis {
         // What a pair, or the clause that it uses, rests on was there before it and has smaller numbers; so each marked pair is still to come when it is
         // marked.
         for number in (0..self.highest.wrapping_add(1)).rev() {
-            self.steps = self.steps.wrapping_add(1);
+            self.count_look();
             if self.is_spent(order) {
                 return Ok(None);
             }

@@ -11,6 +11,7 @@ mod learned_clauses;
 mod learning;
 mod pair_cycle;
 mod process_chain;
+mod process_set;
 mod reasons;
 mod way_search;
 
@@ -20,4 +21,6 @@ pub use learned_clauses::{LearnedClauses, Literal};
 pub use learning::Learning;
 pub use pair_cycle::pairs_of_cycle;
 pub use process_chain::ProcessChain;
+pub use process_set::ProcessSet;
+pub use reasons::order_beside;
 pub use way_search::{WayQuestion, WaySearch};

@@ -4,12 +4,31 @@
 //! operation is named if the conflict rests on it, be it an end of such a pair or not; a core has the operations that are named.
 
 use crate::analysis::Analysis;
-use crate::learned_clauses::LearnedClauses;
+use crate::learned_clauses::{LearnedClauses, Literal};
 use closed_rows::{OrderedPair, PairReason};
 use numbered_log::{LocationId, NOBODY, OperationId};
 use order_propagation::Propagation;
-use possible_sources::Time;
+use possible_sources::{EarlierInterval, EarlierSources, Time};
 use std::alloc::AllocError;
+
+/// The order to ask for in an interval that the reader had left, if the pair stands before or after all sources of the reader; none if nothing is left of the
+/// interval. The first source that was left stands before the others of its interval, and the last one behind them, so it is enough to ask for one.
+pub fn order_beside(
+    order: &Propagation<'_>,
+    earlier: &EarlierSources,
+    run: u32,
+    pair: OrderedPair,
+) -> Option<Literal> {
+    let (first, second) = if matches!(pair.reason, PairReason::BeforeReader(_)) {
+        (pair.first, earlier.first(order.classes(), run))
+    } else {
+        (earlier.last(order.classes(), run), pair.second)
+    };
+    if first == NOBODY || second == NOBODY {
+        return None;
+    }
+    Some(Literal { first, second })
+}
 
 impl Analysis {
     /// Asks why the pair was added.
@@ -27,7 +46,10 @@ impl Analysis {
                 self.ask(order, pair.first, reader, pair.time)
             }
             PairReason::BeforeLast(reader) => self.ask_sources(order, reader, pair.time),
-            PairReason::Learned(clause) => self.ask_clause(order, clauses, clause, pair),
+            PairReason::Learned(clause) => {
+                self.used.push(clause)?;
+                self.ask_others(order, clauses.literals(clause), pair)
+            }
             PairReason::Given => Ok(()),
             PairReason::Timed => Ok(()),
             PairReason::Decided => Ok(()),
@@ -44,32 +66,22 @@ impl Analysis {
     ) -> Result<(), AllocError> {
         self.ask_sources(order, reader, pair.time)?;
         for run in 0..self.earlier.intervals() {
-            // The first source that was left stands before the others of its interval, and the last one behind them, so it is enough to ask for one.
-            if matches!(pair.reason, PairReason::BeforeReader(_)) {
-                let source = self.earlier.first(order.classes(), run);
-                if source != NOBODY && source != pair.first {
-                    self.ask(order, pair.first, source, pair.time)?;
-                }
-            } else {
-                let source = self.earlier.last(order.classes(), run);
-                if source != NOBODY {
-                    self.ask(order, source, pair.second, pair.time)?;
-                }
+            let beside = order_beside(order, &self.earlier, run, pair);
+            if let Some(asked) = beside {
+                self.ask(order, asked.first, asked.second, pair.time)?;
             }
         }
         Ok(())
     }
 
-    /// Asks why the other literals of the clause do not hold.
-    fn ask_clause(
+    /// Asks why the literals other than the pair do not hold.
+    fn ask_others(
         &mut self,
         order: &Propagation<'_>,
-        clauses: &LearnedClauses,
-        clause: u32,
+        literals: &[Literal],
         pair: OrderedPair,
     ) -> Result<(), AllocError> {
-        self.used.push(clause)?;
-        for literal in clauses.literals(clause) {
+        for literal in literals {
             if literal.first != pair.first || literal.second != pair.second {
                 self.ask(order, literal.second, literal.first, pair.time)?;
             }
@@ -91,7 +103,8 @@ impl Analysis {
         }
         self.earlier.clear();
         for run in 0..order.sources().intervals(reader) {
-            self.ask_interval(order, reader, run, time)?;
+            let interval = order.sources().interval_at(reader, run, time);
+            self.ask_interval(order, reader, interval)?;
         }
         if order.sources().had_initial(reader) {
             if let Some(cause) = order.sources().initial_loss_at(reader, time) {
@@ -109,7 +122,7 @@ impl Analysis {
         location: LocationId,
     ) -> Result<(), AllocError> {
         for number in (0..order.log().count()).rev().map(OperationId::new) {
-            self.steps = self.steps.wrapping_add(1);
+            self.count_look();
             let operation = order.log().operation(number);
             if operation.writes && operation.location == location {
                 return self.name(number);
@@ -123,10 +136,9 @@ impl Analysis {
         &mut self,
         order: &Propagation<'_>,
         reader: OperationId,
-        run: u32,
-        time: Time,
+        interval: EarlierInterval,
     ) -> Result<(), AllocError> {
-        let low = order.sources().low_at(reader, run, time);
+        let EarlierInterval { low, high } = interval;
         if let Some(cause) = low.cause {
             self.name(cause.writer)?;
             self.name(cause.witness)?;
@@ -135,7 +147,6 @@ impl Analysis {
                 self.ask(order, cause.witness, reader, cause.time)?;
             }
         }
-        let high = order.sources().high_at(reader, run, time);
         if let Some(cause) = high.cause {
             self.name(cause.writer)?;
             // A reader that stands before the first writer that was lost stands before those behind it, too.
@@ -144,6 +155,6 @@ impl Analysis {
         if order.log().is_final(reader) && low.position < high.position {
             self.name(order.classes().writer(low.position))?;
         }
-        self.earlier.add(low.position, high.position)
+        self.earlier.add(interval)
     }
 }

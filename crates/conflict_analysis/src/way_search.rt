@@ -3,7 +3,7 @@
 //! Past the end of a table `at` reads as its last argument, and `put` does nothing; so arithmetic may wrap, and a wrong place makes no fault.
 
 use closed_rows::OrderedPairs;
-use numbered_log::{NO_NUMBER, OperationId};
+use numbered_log::{NO_NUMBER, NumberedLog, OperationId};
 use order_propagation::Propagation;
 use possible_sources::Time;
 use std::alloc::{AllocError, Global};
@@ -15,6 +15,24 @@ pub struct WayQuestion {
     pub first: OperationId,
     pub second: OperationId,
     pub time: Time,
+}
+
+impl WayQuestion {
+    /// Asks why the first operation stands before the second, by pairs that are older than the time.
+    pub fn new(first: OperationId, second: OperationId, time: Time) -> WayQuestion {
+        WayQuestion {
+            first,
+            second,
+            time,
+        }
+    }
+
+    /// Returns whether program order answers it, or both operations are one.
+    pub fn is_of_program_order(self, log: &NumberedLog) -> bool {
+        let earlier = log.operation(self.first);
+        let later = log.operation(self.second);
+        earlier.process == later.process && earlier.place <= later.place
+    }
 }
 
 /// A search for a way with the fewest pairs that are not used yet, since each of them is a further literal or a further question. A pair costs

@@ -18,6 +18,27 @@ impl Fronts {
         Ok(Fronts { places })
     }
 
+    /// The same fronts once more.
+    pub fn copied(&self, alloc: Global) -> Result<Fronts, AllocError> {
+        let places = Vec::from_slice(alloc, self.places.as_slice())?;
+        Ok(Fronts { places })
+    }
+
+    /// The places of all processes, by the numbers of these.
+    #[inline(always)]
+    pub fn places(&self) -> &[ProcessPlace] {
+        self.places.as_slice()
+    }
+
+    /// Sets the fronts to these places, of as many processes.
+    #[inline(always)]
+    pub fn load(&mut self, places: &[ProcessPlace]) {
+        let own = self.places.as_mut_slice();
+        for number in 0..places.len().min(own.len()) {
+            own[number] = places[number];
+        }
+    }
+
     /// The place of the process's next operation.
     #[inline(always)]
     pub fn of(&self, process: ProcessId) -> ProcessPlace {

@@ -9,10 +9,11 @@ use crate::marked_pairs::MarkedPairs;
 use crate::numbered_lines::NumberedLines;
 use crate::order_facts::OrderFacts;
 use crate::stuck_heads::StuckHeads;
+use closed_rows::OrderedPair;
 use conflict_analysis::{LearnedClauses, Literal, WayQuestion, WaySearch, pairs_of_cycle};
 use numbered_log::{NO_NUMBER, NOBODY, OperationId};
 use order_propagation::{Conflict, Propagation};
-use possible_sources::{EarlierSources, Time};
+use possible_sources::EarlierSources;
 use std::alloc::{AllocError, Global};
 use total_tables::{at, size};
 
@@ -51,13 +52,13 @@ pub(crate) struct Explanation {
     /// For each learned clause its step. Only clauses that were derived anew are in it, under the numbers that the replay gives them.
     pub(crate) clause_steps: Vec<u32>,
     /// Whether each pair of no decision has a step of its own, since many clauses rest on it.
-    pub(crate) has_units: bool,
+    has_units: bool,
     /// The sources that the reader had left, as `add_pieces` found them last.
     pub(crate) earlier: EarlierSources,
     /// Whether something has no line. Then the conflict at hand has no step.
     pub(crate) is_lost: bool,
     /// Pairs looked at by `ask_reasons` that are not taken out of the budget yet.
-    pub(crate) looked: u64,
+    looked: u64,
 }
 
 /// Drops each table in one call. A derived `Drop` would drop each at every exit of a function that owns explanations, which makes its proof longer.
@@ -105,6 +106,11 @@ impl Explanation {
             is_lost: false,
             looked: 0,
         })
+    }
+
+    /// Returns whether each pair of no decision has a step of its own.
+    pub(crate) fn has_units(&self) -> bool {
+        self.has_units
     }
 
     /// Forgets the last conflict.
@@ -194,13 +200,7 @@ impl Explanation {
         clauses: &LearnedClauses,
     ) -> Result<(), AllocError> {
         match order.conflict() {
-            Conflict::Cycle(pair) => {
-                let hint = self.ask_reason(order, clauses, pair)?;
-                if pair.first != pair.second {
-                    self.ask(order, pair.second, pair.first, pair.time)?;
-                }
-                self.note_derived(NO_NUMBER, hint)
-            }
+            Conflict::Cycle(pair) => self.ask_closing(order, clauses, pair),
             Conflict::NoSource(reader) => {
                 self.begin_sources(order, reader, order.later())?;
                 let hint = self.finish_line()?;
@@ -212,6 +212,20 @@ impl Explanation {
                 Ok(())
             }
         }
+    }
+
+    /// Asks for the pair that closes a cycle, and for the way from its second operation to its first.
+    fn ask_closing(
+        &mut self,
+        order: &Propagation<'_>,
+        clauses: &LearnedClauses,
+        pair: OrderedPair,
+    ) -> Result<(), AllocError> {
+        let hint = self.ask_reason(order, clauses, pair)?;
+        if pair.first != pair.second {
+            self.ask(order, WayQuestion::new(pair.second, pair.first, pair.time))?;
+        }
+        self.note_derived(NO_NUMBER, hint)
     }
 
     /// Asks for the pairs of a cycle. A pair of one process that turns program order round is the conflict by itself.
@@ -311,25 +325,16 @@ impl Explanation {
         Ok(())
     }
 
-    /// Asks why the first operation stands before the second, by pairs that are older than the time. It writes no line. That of a way of several pairs is
+    /// Asks the question, unless program order answers it. It writes no line. That of a way of several pairs is
     /// made by `cycle_line`, when all lines of reasons are finished.
     pub(crate) fn ask(
         &mut self,
         order: &Propagation<'_>,
-        first: OperationId,
-        second: OperationId,
-        time: Time,
+        question: WayQuestion,
     ) -> Result<(), AllocError> {
-        let earlier = order.log().operation(first);
-        let later = order.log().operation(second);
-        if earlier.process == later.process && earlier.place <= later.place {
+        if question.is_of_program_order(order.log()) {
             return Ok(());
         }
-        let question = WayQuestion {
-            first,
-            second,
-            time,
-        };
         let mut fact = self.facts.find(question);
         if fact == NO_NUMBER {
             fact = self.find_way(order, question)?;

@@ -3,8 +3,8 @@
 use crate::derivation_steps::DerivationHint;
 use crate::explanation::Explanation;
 use closed_rows::{OrderedPair, PairReason};
-use conflict_analysis::LearnedClauses;
-use numbered_log::{NO_NUMBER, NOBODY, OperationId};
+use conflict_analysis::{LearnedClauses, WayQuestion, order_beside};
+use numbered_log::{NO_NUMBER, OperationId};
 use order_propagation::Propagation;
 use std::alloc::AllocError;
 use total_tables::at;
@@ -27,11 +27,11 @@ impl Explanation {
         match pair.reason {
             PairReason::Given => self.ask_given(b'b', pair),
             PairReason::Timed => self.ask_given(b't', pair),
-            PairReason::BeforeReader(reader) => self.ask_before(order, reader, pair),
-            PairReason::AfterReader(reader) => self.ask_after(order, reader, pair),
+            PairReason::BeforeReader(reader) => self.ask_beside(order, reader, pair),
+            PairReason::AfterReader(reader) => self.ask_beside(order, reader, pair),
             PairReason::BeforeSource(reader) => {
                 self.begin_sources(order, reader, pair.time)?;
-                self.ask(order, pair.first, reader, pair.time)?;
+                self.ask(order, WayQuestion::new(pair.first, reader, pair.time))?;
                 self.finish_main(b'H', pair.first)
             }
             PairReason::BeforeLast(reader) => {
@@ -70,8 +70,9 @@ impl Explanation {
         self.finish_line()
     }
 
-    /// Asks why the first operation of the pair is the only source of the reader or stands before all its sources.
-    fn ask_before(
+    /// Asks why the first operation of the pair is the only source of the reader or stands before all its sources, or why the second one stands after all of
+    /// them.
+    fn ask_beside(
         &mut self,
         order: &Propagation<'_>,
         reader: OperationId,
@@ -79,30 +80,19 @@ impl Explanation {
     ) -> Result<Option<DerivationHint>, AllocError> {
         self.begin_sources(order, reader, pair.time)?;
         for run in 0..self.earlier.intervals() {
-            // The first source that was left stands before the others of its interval, so it is enough to ask for it; likewise the last one in `ask_after`.
-            let source = self.earlier.first(order.classes(), run);
-            if source != NOBODY && source != pair.first {
-                self.ask(order, pair.first, source, pair.time)?;
+            let beside = order_beside(order, &self.earlier, run, pair);
+            if let Some(asked) = beside {
+                self.ask(
+                    order,
+                    WayQuestion::new(asked.first, asked.second, pair.time),
+                )?;
             }
         }
-        self.finish_main(b'L', pair.first)
-    }
-
-    /// Asks why the second operation of the pair stands after all sources of the reader.
-    fn ask_after(
-        &mut self,
-        order: &Propagation<'_>,
-        reader: OperationId,
-        pair: OrderedPair,
-    ) -> Result<Option<DerivationHint>, AllocError> {
-        self.begin_sources(order, reader, pair.time)?;
-        for run in 0..self.earlier.intervals() {
-            let source = self.earlier.last(order.classes(), run);
-            if source != NOBODY {
-                self.ask(order, source, pair.second, pair.time)?;
-            }
+        if matches!(pair.reason, PairReason::BeforeReader(_)) {
+            self.finish_main(b'L', pair.first)
+        } else {
+            self.finish_main(b'H', pair.second)
         }
-        self.finish_main(b'H', pair.second)
     }
 
     /// Asks why the other literals of the clause do not hold.
@@ -115,7 +105,10 @@ impl Explanation {
     ) -> Result<Option<DerivationHint>, AllocError> {
         for literal in clauses.literals(clause) {
             if literal.first != pair.first || literal.second != pair.second {
-                self.ask(order, literal.second, literal.first, pair.time)?;
+                self.ask(
+                    order,
+                    WayQuestion::new(literal.second, literal.first, pair.time),
+                )?;
             }
         }
         let step = at(self.clause_steps.as_slice(), clause, NO_NUMBER);

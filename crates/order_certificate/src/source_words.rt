@@ -1,9 +1,10 @@
 //! Lines that a reader has a source, with the pieces that say of each lost source why it is none.
 
 use crate::explanation::Explanation;
+use conflict_analysis::WayQuestion;
 use numbered_log::{NOBODY, NumberedLog, NumberedOrigin, OperationId, ProcessPlace};
 use order_propagation::Propagation;
-use possible_sources::Time;
+use possible_sources::{EarlierInterval, Time};
 use std::alloc::AllocError;
 
 /// Returns whether the reading operation may read the initial value by the trace's values and origins alone.
@@ -58,7 +59,8 @@ impl Explanation {
     ) -> Result<(), AllocError> {
         self.earlier.clear();
         for run in 0..order.sources().intervals(reader) {
-            self.add_interval(order, reader, run, time)?;
+            let interval = order.sources().interval_at(reader, run, time);
+            self.add_interval(order, reader, interval)?;
         }
         if !order.log().is_final(reader) {
             self.add_initial(order, reader, time)?;
@@ -71,26 +73,26 @@ impl Explanation {
         &mut self,
         order: &Propagation<'_>,
         reader: OperationId,
-        run: u32,
-        time: Time,
+        interval: EarlierInterval,
     ) -> Result<(), AllocError> {
-        let hidden = order.sources().low_at(reader, run, time);
-        if let Some(cause) = hidden.cause {
+        if let Some(cause) = interval.low.cause {
             self.lines.letter(b'h')?;
             self.lines.operation(cause.witness)?;
             self.lines.operation(cause.writer)?;
-            self.ask(order, cause.writer, cause.witness, cause.time)?;
+            self.ask(
+                order,
+                WayQuestion::new(cause.writer, cause.witness, cause.time),
+            )?;
             if !order.log().is_final(reader) {
-                self.ask(order, cause.witness, reader, cause.time)?;
+                self.ask(order, WayQuestion::new(cause.witness, reader, cause.time))?;
             }
         }
-        let late = order.sources().high_at(reader, run, time);
-        if let Some(cause) = late.cause {
+        if let Some(cause) = interval.high.cause {
             self.lines.letter(b'f')?;
             self.lines.operation(cause.writer)?;
-            self.ask(order, reader, cause.writer, cause.time)?;
+            self.ask(order, WayQuestion::new(reader, cause.writer, cause.time))?;
         }
-        self.earlier.add(hidden.position, late.position)
+        self.earlier.add(interval)
     }
 
     /// Adds the piece for the initial value, if the reader had lost it.
@@ -108,7 +110,7 @@ impl Explanation {
             return self.add_hidden_initial(writer);
         }
         if let Some(cause) = order.sources().initial_loss_at(reader, time) {
-            self.ask(order, cause.witness, reader, cause.time)?;
+            self.ask(order, WayQuestion::new(cause.witness, reader, cause.time))?;
             return self.add_hidden_initial(cause.witness);
         }
         Ok(())

@@ -16,7 +16,7 @@ impl Explanation {
         order: &Propagation<'_>,
         literals: &[Literal],
     ) -> Result<u32, AllocError> {
-        if self.has_units {
+        if self.has_units() {
             self.derive_units(order)?;
         }
         self.hints.begin();
@@ -31,7 +31,7 @@ impl Explanation {
 
     /// Returns whether what was derived is a pair with a step of its own.
     fn has_unit(&self, order: &Propagation<'_>, derived: DerivedPair) -> bool {
-        self.has_units && derived.pair != NO_NUMBER && order.pairs().pair(derived.pair).level == 0
+        self.has_units() && derived.pair != NO_NUMBER && order.pairs().pair(derived.pair).level == 0
     }
 
     /// Derives each pair of no decision by a step of its own. The oldest pair comes first, since the steps of later ones name its step.

@@ -3,17 +3,17 @@
 //! Past the end of a table `at` reads as its last argument, and `put` does nothing; so arithmetic may wrap, and a wrong place makes no fault.
 
 use crate::explanation::Explanation;
+use conflict_analysis::{ProcessSet, WayQuestion};
 use numbered_log::{Fronts, NO_NUMBER, NOBODY, OperationId, ProcessId};
 use order_propagation::Propagation;
 use std::alloc::{AllocError, Global};
-use total_tables::{at, put};
 
 /// The next operation of each process after all that may be placed one after the other by the order and the possible sources alone. What is
 /// left by then is stuck, whatever was placed when.
 pub(crate) struct StuckHeads {
     fronts: Fronts,
     /// The processes of a set of which no next operation can come before another of them.
-    is_in_set: Vec<bool>,
+    stuck: ProcessSet,
     /// Looks that are taken out of the budget when the set is found.
     looked: u64,
 }
@@ -23,7 +23,7 @@ impl Drop for StuckHeads {
     fn drop(self) {
         let StuckHeads {
             fronts: _fronts,
-            is_in_set: _is_in_set,
+            stuck: _stuck,
             looked: _,
         } = self;
     }
@@ -38,11 +38,11 @@ impl StuckHeads {
         let processes = order.log().processes();
         let mut heads = StuckHeads {
             fronts: Fronts::new(alloc, processes)?,
-            is_in_set: vec![in alloc; false; processes as usize]?,
+            stuck: ProcessSet::new(alloc, processes)?,
             looked: 0,
         };
         heads.place_all(order);
-        let is_stuck = heads.choose_set(alloc, order)?;
+        let is_stuck = heads.choose_set(order)?;
         order.spend(heads.looked);
         Ok(if is_stuck { Some(heads) } else { None })
     }
@@ -59,7 +59,7 @@ impl StuckHeads {
 
     /// Returns whether the process belongs to the set.
     fn is_member(&self, process: ProcessId) -> bool {
-        at(self.is_in_set.as_slice(), process.number(), false)
+        self.stuck.has(process)
     }
 
     /// Places operations of one process after the other, until none goes on.
@@ -128,12 +128,12 @@ impl StuckHeads {
 
     /// Chooses a small set, grown from one stuck process. Returns whether there is one. It is small since the line names each member and
     /// what that one rests on.
-    fn choose_set(&mut self, alloc: Global, order: &Propagation<'_>) -> Result<bool, AllocError> {
+    fn choose_set(&mut self, order: &Propagation<'_>) -> Result<bool, AllocError> {
         let mut smallest = NO_NUMBER;
         let mut best = ProcessId::NONE;
         for process in order.log().process_ids() {
             if self.head(order, process) != NOBODY {
-                let count = self.grow_from(alloc, order, process)?;
+                let count = self.grow_from(order, process)?;
                 if count < smallest {
                     smallest = count;
                     best = process;
@@ -144,7 +144,7 @@ impl StuckHeads {
             return Ok(false);
         }
         // The set is that of the last process that was tried, so that of the best is grown once more.
-        self.grow_from(alloc, order, best)?;
+        self.grow_from(order, best)?;
         Ok(true)
     }
 
@@ -152,30 +152,25 @@ impl StuckHeads {
     /// set before is forgotten. An operation that reads nothing and is stuck has one that blocks it.
     fn grow_from(
         &mut self,
-        alloc: Global,
         order: &Propagation<'_>,
         process: ProcessId,
     ) -> Result<u32, AllocError> {
+        self.stuck.begin(process)?;
         let processes = order.log().processes();
-        self.is_in_set = vec![in alloc; false; processes as usize]?;
-        let mut due: Vec<ProcessId> = Vec::new(alloc);
-        self.join(process, &mut due)?;
-        let mut count: u32 = 0;
         for _ in 0..processes {
-            let Some(next) = due.pop() else {
+            let Some(next) = self.stuck.take_due() else {
                 break;
             };
-            count = count.wrapping_add(1);
             self.looked = self.looked.wrapping_add(processes as u64);
             let number = self.head(order, next);
             let blocking = self.blocking(order, number);
             if blocking != ProcessId::NONE {
-                self.join(blocking, &mut due)?;
+                self.stuck.join(blocking)?;
             } else {
-                self.join_sources(order, number, &mut due)?;
+                self.join_sources(order, number)?;
             }
         }
-        Ok(count)
+        Ok(self.stuck.count())
     }
 
     /// Has the processes of the operation's possible sources join the set.
@@ -183,22 +178,12 @@ impl StuckHeads {
         &mut self,
         order: &Propagation<'_>,
         number: OperationId,
-        due: &mut Vec<ProcessId>,
     ) -> Result<(), AllocError> {
         for run in 0..order.sources().intervals(number) {
             if order.sources().low(number, run) < order.sources().high(number, run) {
                 let process = order.sources().process(order.classes(), number, run);
-                self.join(process, due)?;
+                self.stuck.join(process)?;
             }
-        }
-        Ok(())
-    }
-
-    /// Has the process join the set, and wait in `due` for its own turn, unless it is in the set.
-    fn join(&mut self, process: ProcessId, due: &mut Vec<ProcessId>) -> Result<(), AllocError> {
-        if !at(self.is_in_set.as_slice(), process.number(), true) {
-            put(self.is_in_set.as_mut_slice(), process.number(), true);
-            due.push(process)?;
         }
         Ok(())
     }
@@ -238,6 +223,6 @@ impl Explanation {
         self.lines.letter(b'm')?;
         self.lines.operation(number)?;
         self.lines.operation(first)?;
-        self.ask(order, first, number, order.later())
+        self.ask(order, WayQuestion::new(first, number, order.later()))
     }
 }

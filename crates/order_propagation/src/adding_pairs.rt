@@ -7,6 +7,7 @@
 
 use crate::conflict::{Conflict, Stop};
 use crate::propagation::Propagation;
+use crate::waking::cost_of;
 use closed_rows::{PairReason, RowEntry, RowKind};
 use numbered_log::{LocationId, OperationId, ProcessId, ProcessPlace};
 use std::alloc::AllocError;
@@ -131,8 +132,7 @@ impl<'a> Propagation<'a> {
                 self.rows.change(RowKind::Before, number, floor)?;
             }
         }
-        self.budget
-            .spend((self.rows.floors().count() as u64).wrapping_mul(4));
+        self.budget.spend(cost_of(self.rows.floors().count()));
         self.wake_raised(number, operation, has_news);
         Ok(())
     }
@@ -158,8 +158,7 @@ impl<'a> Propagation<'a> {
                 self.rows.change(RowKind::After, number, ceiling)?;
             }
         }
-        self.budget
-            .spend((self.rows.ceilings().count() as u64).wrapping_mul(4));
+        self.budget.spend(cost_of(self.rows.ceilings().count()));
         self.wake_lowered(number, operation, has_news);
         Ok(())
     }

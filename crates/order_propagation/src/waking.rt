@@ -10,6 +10,12 @@ use total_tables::{at, first_place};
 /// The number of readers of a class up to which all are looked at. Among more it is sooner to look for those that are concerned, by halves.
 const FEW_READERS: u32 = 24;
 
+/// The steps that looks at this number of entries of a table cost.
+#[inline(always)]
+pub(crate) fn cost_of(entries: u32) -> u64 {
+    (entries as u64).wrapping_mul(4)
+}
+
 impl<'a> Propagation<'a> {
     /// Has no other reading operation be looked at than those of which that is wanted, by number. It is called when nothing waits, and holds until
     /// the next round.
@@ -86,8 +92,7 @@ impl<'a> Propagation<'a> {
             for position in begin..end {
                 self.wake_at(position, writer, all);
             }
-            self.budget
-                .spend((end.saturating_sub(begin) as u64).wrapping_mul(4));
+            self.budget.spend(cost_of(end.saturating_sub(begin)));
             return;
         }
         if self.is_reaching() {

@@ -3,15 +3,13 @@
 use crate::placing_walk::PlacingWalk;
 use numbered_log::{NO_NUMBER, NOBODY, OperationId, ProcessId};
 use order_propagation::Propagation;
-use std::alloc::{AllocError, Global};
-use total_tables::{at, put};
+use std::alloc::AllocError;
 
 impl PlacingWalk {
     /// Finds the smallest set of processes whose next operations are each behind the next operation of another of them, or read only what these
     /// processes have still to write: fewer reasons make a shorter clause. Asks why that is so. Returns whether there is one.
     pub(crate) fn ask_closed_set(
         &mut self,
-        alloc: Global,
         order: &mut Propagation<'_>,
     ) -> Result<bool, AllocError> {
         let processes = order.log().processes();
@@ -19,7 +17,7 @@ impl PlacingWalk {
         let mut best = ProcessId::NONE;
         for process in ProcessId::first(processes) {
             if self.head(order, process) != NOBODY {
-                let count = self.close(alloc, order, process)?;
+                let count = self.close(order, process)?;
                 if count != 0 && count < smallest {
                     smallest = count;
                     best = process;
@@ -29,11 +27,11 @@ impl PlacingWalk {
         if best == ProcessId::NONE {
             return Ok(false);
         }
-        // The table has the set of the last process that was tried, so that of the best is made once more.
-        self.close(alloc, order, best)?;
+        // The set is that of the last process that was tried, so that of the best is made once more.
+        self.close(order, best)?;
         self.learning.analysis.begin();
         for process in ProcessId::first(processes) {
-            if at(self.is_in_set.as_slice(), process.number(), false) {
+            if self.closed_set.has(process) {
                 self.ask_head(order, process)?;
             }
         }
@@ -57,7 +55,7 @@ impl PlacingWalk {
         for process in order.log().process_ids() {
             let is_before = order.rows().before(number, process) >= self.memory.front(process);
             if is_before && process != own {
-                if at(self.is_in_set.as_slice(), process.number(), false) {
+                if self.closed_set.has(process) {
                     return process;
                 }
                 if found == ProcessId::NONE {
@@ -71,29 +69,21 @@ impl PlacingWalk {
     /// Closes the set of this process alone. Returns the number of its processes, or 0 if one of them can go on.
     fn close(
         &mut self,
-        alloc: Global,
         order: &mut Propagation<'_>,
         process: ProcessId,
     ) -> Result<u32, AllocError> {
+        self.closed_set.begin(process)?;
         let processes = order.log().processes();
-        for other in order.log().process_ids() {
-            put(self.is_in_set.as_mut_slice(), other.number(), false);
-        }
-        let mut due = Vec::new(alloc);
-        put(self.is_in_set.as_mut_slice(), process.number(), true);
-        due.push(process)?;
-        let mut count: u32 = 0;
         for _ in 0..processes {
-            let Some(next) = due.pop() else {
+            let Some(next) = self.closed_set.take_due() else {
                 break;
             };
             order.spend(processes as u64);
-            count = count.wrapping_add(1);
-            if !self.join_needed(order, next, &mut due)? {
+            if !self.join_needed(order, next)? {
                 return Ok(0);
             }
         }
-        Ok(count)
+        Ok(self.closed_set.count())
     }
 
     /// Has the processes join the set that have to go on before this one can. Returns whether it needs any.
@@ -101,12 +91,11 @@ impl PlacingWalk {
         &mut self,
         order: &Propagation<'_>,
         process: ProcessId,
-        due: &mut Vec<ProcessId>,
     ) -> Result<bool, AllocError> {
         let number = self.head(order, process);
         let blocking = self.blocking(order, number);
         if blocking != ProcessId::NONE {
-            self.join(blocking, due)?;
+            self.closed_set.join(blocking)?;
             return Ok(true);
         }
         if !order.log().operation(number).reads || order.sources().has_initial(number) {
@@ -125,19 +114,10 @@ impl PlacingWalk {
                 {
                     return Ok(false);
                 }
-                self.join(other, due)?;
+                self.closed_set.join(other)?;
             }
         }
         Ok(true)
-    }
-
-    /// Has the process join the set, and wait in `due` for its own turn, unless it is in the set.
-    fn join(&mut self, process: ProcessId, due: &mut Vec<ProcessId>) -> Result<(), AllocError> {
-        if !at(self.is_in_set.as_slice(), process.number(), true) {
-            put(self.is_in_set.as_mut_slice(), process.number(), true);
-            due.push(process)?;
-        }
-        Ok(())
     }
 
     /// Asks why the next operation of the process cannot come before others of the set.

@@ -253,14 +253,14 @@ impl PlacingWalk {
             if let Some(found) = self.look_at_fronts(order)? {
                 return Ok(found);
             }
-            if self.ask_closed_set(alloc, order)? {
+            if self.ask_closed_set(order)? {
                 return self.learn(order);
             }
         }
         if let Some((first, second)) = self.untie(alloc, order)? {
             return self.decide(order, first, second);
         }
-        if self.deciding == Deciding::WhenStuck && self.ask_closed_set(alloc, order)? {
+        if self.deciding == Deciding::WhenStuck && self.ask_closed_set(order)? {
             return self.learn(order);
         }
         self.restarts = self.restarts.wrapping_add(1);

@@ -4,8 +4,8 @@
 
 use crate::spare_values::SpareValues;
 use numbered_log::{
-    LocationId, NO_NUMBER, NOBODY, NumberedLog, Operation, OperationId, ProcessId, ProcessPlace,
-    UNKNOWN_SOURCE,
+    Fronts, LocationId, NO_NUMBER, NOBODY, NumberedLog, Operation, OperationId, ProcessId,
+    ProcessPlace, UNKNOWN_SOURCE,
 };
 use order_propagation::Propagation;
 use std::alloc::{AllocError, Global};
@@ -16,8 +16,7 @@ pub(crate) struct PlacedMemory {
     pub(crate) placed: Vec<OperationId>,
     /// For each operation the number of those placed before it, or `NO_NUMBER`.
     positions: Vec<u32>,
-    /// For each process the place of its next operation.
-    fronts: Vec<ProcessPlace>,
+    fronts: Fronts,
     /// For each location the operation that has written it last, or `NOBODY`.
     held: Vec<OperationId>,
     /// For each placed operation that writes the one that its location held before, so that it is taken back without a search.
@@ -67,7 +66,7 @@ impl PlacedMemory {
         let mut memory = PlacedMemory {
             placed: Vec::with_capacity(alloc, count)?,
             positions: vec![in alloc; NO_NUMBER; count]?,
-            fronts: vec![in alloc; ProcessPlace::FIRST; log.processes() as usize]?,
+            fronts: Fronts::new(alloc, log.processes())?,
             held: vec![in alloc; NOBODY; log.locations() as usize]?,
             held_before: vec![in alloc; NOBODY; count]?,
             sources: vec![in alloc; UNKNOWN_SOURCE; count]?,
@@ -160,13 +159,18 @@ impl PlacedMemory {
     /// The place of the process's next operation.
     #[inline(always)]
     pub(crate) fn front(&self, process: ProcessId) -> ProcessPlace {
-        at(self.fronts.as_slice(), process.number(), ProcessPlace::FAR)
+        self.fronts.of(process)
     }
 
     /// The operation that has written the location last, or `NOBODY`.
     #[inline(always)]
     pub(crate) fn held(&self, location: LocationId) -> OperationId {
         at(self.held.as_slice(), location.number(), NOBODY)
+    }
+
+    /// Has the location hold what this operation has written.
+    fn hold(&mut self, location: LocationId, writer: OperationId) {
+        put(self.held.as_mut_slice(), location.number(), writer);
     }
 
     /// The operation that its location held before this one was placed.
@@ -200,12 +204,7 @@ impl PlacedMemory {
         let position = self.count();
         self.placed.push(number)?;
         put(self.positions.as_mut_slice(), number.number(), position);
-        let front = operation.place.next();
-        put(
-            self.fronts.as_mut_slice(),
-            operation.process.number(),
-            front,
-        );
+        self.fronts.set(operation.process, operation.place.next());
         // An update reads before it writes: `unread` speaks of what is held until then.
         let mut is_free = false;
         if operation.reads {
@@ -216,11 +215,7 @@ impl PlacedMemory {
         if operation.writes {
             let held = self.held(operation.location);
             put(self.held_before.as_mut_slice(), number.number(), held);
-            put(
-                self.held.as_mut_slice(),
-                operation.location.number(),
-                number,
-            );
+            self.hold(operation.location, number);
             if !operation.reads {
                 self.spare.lose(operation.location, held);
             }
@@ -237,18 +232,10 @@ impl PlacedMemory {
             };
             let operation = log.operation(number);
             put(self.positions.as_mut_slice(), number.number(), NO_NUMBER);
-            put(
-                self.fronts.as_mut_slice(),
-                operation.process.number(),
-                operation.place,
-            );
+            self.fronts.set(operation.process, operation.place);
             if operation.writes {
                 let before = self.held_before(number);
-                put(
-                    self.held.as_mut_slice(),
-                    operation.location.number(),
-                    before,
-                );
+                self.hold(operation.location, before);
                 if !operation.reads {
                     self.spare.give_back(operation.location, before);
                 }

@@ -4,7 +4,7 @@
 
 use crate::memory::PlacedMemory;
 use crate::waiting::Awaited;
-use conflict_analysis::Learning;
+use conflict_analysis::{Learning, ProcessSet};
 use numbered_log::{NOBODY, NumberedLog, Operation, OperationId, ProcessId, UNKNOWN_SOURCE};
 use order_propagation::Propagation;
 use std::alloc::{AllocError, Global};
@@ -46,8 +46,8 @@ pub struct PlacingWalk {
     pub(crate) decided_at: Vec<u32>,
     /// The number of pairs whose order the placed operations are known to have, so that only newer ones are looked at.
     pub(crate) heeded: u32,
-    /// The processes of a set that is closed.
-    pub(crate) is_in_set: Vec<bool>,
+    /// Processes of which none can go on before another of them does.
+    pub(crate) closed_set: ProcessSet,
     /// How often no operation could come next.
     pub(crate) stuck: u32,
     /// How often the walk has begun at the front again.
@@ -86,7 +86,7 @@ impl PlacingWalk {
             learning,
             decided_at: Vec::new(alloc),
             heeded: order.pairs().count(),
-            is_in_set: vec![in alloc; false; processes]?,
+            closed_set: ProcessSet::new(alloc, log.processes())?,
             stuck: 0,
             restarts: 0,
             conflicts: 0,
@@ -137,7 +137,7 @@ impl PlacingWalk {
             learning,
             decided_at: _decided_at,
             heeded: _,
-            is_in_set: _is_in_set,
+            closed_set: _closed_set,
             stuck: _,
             restarts: _,
             conflicts: _,

@@ -18,6 +18,15 @@ pub struct EarlierBound {
     pub cause: Option<LossCause>,
 }
 
+/// What a reader had left of an interval at a time.
+#[derive(Clone, Copy)]
+pub struct EarlierInterval {
+    /// Its first position. The writers before it were hidden.
+    pub low: EarlierBound,
+    /// The position behind it. The writers from there on stood after the reader.
+    pub high: EarlierBound,
+}
+
 /// The intervals that a reader had at a time, of each its first position and the one behind its last.
 #[derive(Drop)]
 pub struct EarlierSources {
@@ -49,16 +58,15 @@ impl SourceIntervals {
         }
     }
 
-    /// The first position of the interval at the time. The writers before it were hidden.
-    pub fn low_at(&self, reader: OperationId, run: u32, time: Time) -> EarlierBound {
-        let last = self.last_hidden(self.interval(reader, run));
-        self.bound_at(self.low(reader, run), last, time)
-    }
-
-    /// The position behind the interval at the time. The writers from there on stood after the reader.
-    pub fn high_at(&self, reader: OperationId, run: u32, time: Time) -> EarlierBound {
-        let last = self.last_late(self.interval(reader, run));
-        self.bound_at(self.high(reader, run), last, time)
+    /// The interval as it was at the time.
+    pub fn interval_at(&self, reader: OperationId, run: u32, time: Time) -> EarlierInterval {
+        let interval = self.interval(reader, run);
+        let low = self.low(reader, run);
+        let high = self.high(reader, run);
+        EarlierInterval {
+            low: self.bound_at(low, self.last_hidden(interval), time),
+            high: self.bound_at(high, self.last_late(interval), time),
+        }
     }
 
     /// The cause for which the reader had lost the initial value at the time, if it had.
@@ -91,10 +99,10 @@ impl EarlierSources {
         self.highs.clear();
     }
 
-    /// Adds the next interval of the reader, from one position up to another.
-    pub fn add(&mut self, low: u32, high: u32) -> Result<(), AllocError> {
-        self.lows.push(low)?;
-        self.highs.push(high)?;
+    /// Adds the next interval of the reader.
+    pub fn add(&mut self, interval: EarlierInterval) -> Result<(), AllocError> {
+        self.lows.push(interval.low.position)?;
+        self.highs.push(interval.high.position)?;
         Ok(())
     }
 

@@ -12,7 +12,7 @@ mod source_intervals;
 mod time;
 mod value_classes;
 
-pub use earlier_sources::{EarlierBound, EarlierSources};
+pub use earlier_sources::{EarlierBound, EarlierInterval, EarlierSources};
 pub use hiding_accesses::{HidingAccesses, HidingQuery};
 pub use reader_classes::ReaderClasses;
 pub use source_intervals::{

@@ -53,12 +53,18 @@ impl Drop for StateLayer {
     }
 }
 
+/// The entries of the state of this number in a table of many states, of each of which it has this number of entries.
+#[inline(always)]
+fn entries_of<T>(table: &[T], number: u32, count: u32) -> &[T] {
+    let from = number.wrapping_mul(count);
+    piece(table, from, from.saturating_add(count))
+}
+
 /// Makes the entries those of the state of this number in a table of many states. The table that is written has as many entries as a state.
 #[inline(always)]
 fn load_entries<T: Copy>(table: &[T], number: u32, entries: &mut [T]) {
     let count = size(entries);
-    let from = number.wrapping_mul(count);
-    copy_entries(piece(table, from, from.saturating_add(count)), entries);
+    copy_entries(entries_of(table, number, count), entries);
 }
 
 impl StateLayer {
@@ -79,7 +85,7 @@ impl StateLayer {
 
     /// Adds the state, which was come to by this choice.
     pub(crate) fn push(&mut self, state: &FrontState, choice: Choice) -> Result<(), AllocError> {
-        self.fronts.extend_from_slice(state.fronts.as_slice())?;
+        self.fronts.extend_from_slice(state.fronts.places())?;
         self.held.extend_from_slice(state.held.as_slice())?;
         self.spare.extend_from_slice(state.spare.as_slice())?;
         self.labels.push(Label {
@@ -93,7 +99,10 @@ impl StateLayer {
     /// Makes the state that of this number, in a layer of this number of placed operations. Its tables have the right sizes already.
     #[inline(always)]
     pub(crate) fn load(&self, number: u32, placed: u32, state: &mut FrontState) {
-        load_entries(self.fronts.as_slice(), number, state.fronts.as_mut_slice());
+        let processes = size(state.fronts.places());
+        state
+            .fronts
+            .load(entries_of(self.fronts.as_slice(), number, processes));
         load_entries(self.held.as_slice(), number, state.held.as_mut_slice());
         load_entries(self.spare.as_slice(), number, state.spare.as_mut_slice());
         let label = at(self.labels.as_slice(), number, NO_LABEL);

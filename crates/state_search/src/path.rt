@@ -4,7 +4,7 @@ use crate::layer::{Choice, NO_CHOICE};
 use crate::prices::Prices;
 use crate::state::FrontState;
 use crate::valued_log::ValuedLog;
-use numbered_log::{OperationId, ProcessId, ProcessPlace};
+use numbered_log::{Fronts, OperationId, ProcessId};
 use std::alloc::{AllocError, Global};
 use total_tables::{at, size};
 
@@ -36,19 +36,19 @@ fn chosen_processes(
 /// Adds the operations from these fronts up to those of the state: those of one process, which was the last to change a location, before all others.
 fn push_placed(
     log: &ValuedLog<'_>,
-    before: &[ProcessPlace],
+    before: &Fronts,
     state: &FrontState,
     process: ProcessId,
     schedule: &mut Vec<OperationId>,
 ) -> Result<(), AllocError> {
-    let begin = at(before, process.number(), ProcessPlace::FAR);
-    for place in begin.up_to(state.front(process)) {
+    let begin = before.of(process);
+    for place in begin.up_to(state.fronts.of(process)) {
         schedule.push(log.number(process, place))?;
     }
     for other in state.process_ids() {
         if other != process {
-            let begin = at(before, other.number(), ProcessPlace::FAR);
-            for place in begin.up_to(state.front(other)) {
+            let begin = before.of(other);
+            for place in begin.up_to(state.fronts.of(other)) {
                 schedule.push(log.number(other, place))?;
             }
         }
@@ -67,23 +67,17 @@ pub(crate) fn schedule_along(
 ) -> Result<Vec<OperationId>, AllocError> {
     let mut state = first;
     let mut schedule = Vec::new(alloc);
-    let begin = Vec::from_slice(alloc, state.fronts.as_slice())?;
+    let begin = state.fronts.copied(alloc)?;
     state.settle(log, prices);
-    push_placed(
-        log,
-        begin.as_slice(),
-        &state,
-        ProcessId::FIRST,
-        &mut schedule,
-    )?;
+    push_placed(log, &begin, &state, ProcessId::FIRST, &mut schedule)?;
     let processes = chosen_processes(alloc, choices, last)?;
     for number in 0..size(processes.as_slice()) {
         let process = at(processes.as_slice(), number, ProcessId::FIRST);
-        let before = Vec::from_slice(alloc, state.fronts.as_slice())?;
-        let access = log.access(process, state.front(process));
+        let before = state.fronts.copied(alloc)?;
+        let access = log.access(process, state.fronts.of(process));
         state.place_writer(log, prices, process, access);
         state.settle(log, prices);
-        push_placed(log, before.as_slice(), &state, process, &mut schedule)?;
+        push_placed(log, &before, &state, process, &mut schedule)?;
     }
     Ok(schedule)
 }

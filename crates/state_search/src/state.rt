@@ -2,14 +2,14 @@
 
 use crate::prices::Prices;
 use crate::valued_log::{Access, ValueId, ValuedLog};
-use numbered_log::{LocationId, ProcessId, ProcessIds, ProcessPlace};
+use numbered_log::{Fronts, LocationId, ProcessId, ProcessIds, ProcessPlace};
 use std::alloc::{AllocError, Global};
 use total_tables::{at, put, size};
 
 /// What is placed of each process, what each location holds, and what follows from these two.
 pub(crate) struct FrontState {
-    /// For each process the place of its next operation, or the one behind its last.
-    pub(crate) fronts: Vec<ProcessPlace>,
+    /// The place of a process of which all is placed is the one behind its last.
+    pub(crate) fronts: Fronts,
     /// For each location the value that it holds.
     pub(crate) held: Vec<ValueId>,
     /// For each value how many plain writes can still come over it: with one more an update or a final value would have no source of its own.
@@ -81,7 +81,7 @@ impl FrontState {
             price = price.wrapping_add(prices.of_rest(rest));
         }
         Ok(FrontState {
-            fronts: vec![in alloc; ProcessPlace::FIRST; log.processes() as usize]?,
+            fronts: Fronts::new(alloc, log.processes())?,
             held: Vec::from_slice(alloc, log.initial())?,
             spare,
             placed: 0,
@@ -94,7 +94,7 @@ impl FrontState {
     /// A copy.
     pub(crate) fn copied(&self, alloc: Global) -> Result<FrontState, AllocError> {
         Ok(FrontState {
-            fronts: Vec::from_slice(alloc, self.fronts.as_slice())?,
+            fronts: self.fronts.copied(alloc)?,
             held: Vec::from_slice(alloc, self.held.as_slice())?,
             spare: Vec::from_slice(alloc, self.spare.as_slice())?,
             placed: self.placed,
@@ -106,7 +106,7 @@ impl FrontState {
     /// Makes this state equal to another one, whose tables have as many entries.
     #[inline(always)]
     pub(crate) fn load(&mut self, other: &FrontState) {
-        copy_entries(other.fronts.as_slice(), self.fronts.as_mut_slice());
+        self.fronts.load(other.fronts.places());
         copy_entries(other.held.as_slice(), self.held.as_mut_slice());
         copy_entries(other.spare.as_slice(), self.spare.as_mut_slice());
         self.placed = other.placed;
@@ -116,7 +116,7 @@ impl FrontState {
 
     /// The number of entries of all tables.
     pub(crate) fn entries(&self) -> u32 {
-        size(self.fronts.as_slice())
+        size(self.fronts.places())
             .saturating_add(size(self.held.as_slice()))
             .saturating_add(size(self.spare.as_slice()))
     }
@@ -124,13 +124,7 @@ impl FrontState {
     /// All processes, by rising numbers.
     #[inline(always)]
     pub(crate) fn process_ids(&self) -> ProcessIds {
-        ProcessId::first(size(self.fronts.as_slice()))
-    }
-
-    /// The place of the process's next operation.
-    #[inline(always)]
-    pub(crate) fn front(&self, process: ProcessId) -> ProcessPlace {
-        at(self.fronts.as_slice(), process.number(), ProcessPlace::FAR)
+        ProcessId::first(size(self.fronts.places()))
     }
 
     /// The value that the location holds.
@@ -148,14 +142,14 @@ impl FrontState {
     /// Moves the process's front on by one.
     #[inline(always)]
     fn pass(&mut self, log: &ValuedLog<'_>, prices: Prices, process: ProcessId) {
-        let front = self.front(process);
+        let front = self.fronts.of(process);
         let rest = log.rest(process, front);
         let cheaper = prices
             .of_rest(rest)
             .wrapping_sub(prices.of_rest(rest.wrapping_sub(1)));
         self.price = self.price.wrapping_sub(cheaper);
         self.mixed ^= mixed_front(process, front) ^ mixed_front(process, front.next());
-        put(self.fronts.as_mut_slice(), process.number(), front.next());
+        self.fronts.set(process, front.next());
         self.placed = self.placed.wrapping_add(1);
     }
 
@@ -204,7 +198,7 @@ impl FrontState {
     pub(crate) fn settle(&mut self, log: &ValuedLog<'_>, prices: Prices) {
         for process in self.process_ids() {
             for _ in 0..log.count() {
-                let access = log.access(process, self.front(process));
+                let access = log.access(process, self.fronts.of(process));
                 // Behind the last operation there is an access that needs nothing either.
                 if access.needs_nothing() || access.changes() || !self.fits(access) {
                     break;

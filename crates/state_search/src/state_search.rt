@@ -137,7 +137,7 @@ impl<'a> StateSearch<'a> {
         let number = size(self.choices.as_slice());
         self.choices.push(choice)?;
         for process in self.state.process_ids() {
-            let access = self.log.access(process, self.state.front(process));
+            let access = self.log.access(process, self.state.fronts.of(process));
             if access.changes() && self.state.fits(access) {
                 self.place(number, process, access)?;
             }
