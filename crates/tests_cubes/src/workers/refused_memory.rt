@@ -3,7 +3,7 @@
 
 use crate::expectations::{ample, expect};
 use crate::workers::seats::{FOUR_LEAVES, ONE_CLAUSE};
-use crate::workers::talkers::{TalkEnd, talkers};
+use crate::workers::talkers::{LATER, TalkEnd, talkers};
 use cnf_text::read_cnf;
 use cube_jobs::{OpenGate, Options, SearchRun};
 use cube_tree::{Tree, read_tree};
@@ -21,12 +21,7 @@ use text_lines::plain_fault::PlainFault;
 const BUDGET: u64 = 1000;
 
 /// Four searches. The second lies in the second round.
-const ONE_LIES: [(u32, TalkEnd); 4] = [
-    (1000, TalkEnd::Lies),
-    (230, TalkEnd::Lies),
-    (1000, TalkEnd::Lies),
-    (1000, TalkEnd::Lies),
-];
+const ONE_LIES: [(u32, TalkEnd); 4] = [LATER, (230, TalkEnd::Lies), LATER, LATER];
 
 /// The steps that are needed: the 230 of the second search, and 200 of each other one, which are its first round.
 const NEEDED: usize = 830;

@@ -2,7 +2,7 @@
 //! after a round.
 
 use crate::workers::searches::{formula_of, tree_of};
-use crate::workers::talkers::{TalkEnd, talkers};
+use crate::workers::talkers::{LATER, TalkEnd, talkers};
 use cube_jobs::{OpenGate, Options, SearchRun};
 use dimacs::Formula;
 use lrat_check::checker::check;
@@ -25,19 +25,14 @@ pub const FOUR_LEAVES: &[u8] = b"split 1\nsplit 2\nleaf\nleaf\nsplit 2\nleaf\nle
 const BUDGET: u64 = 2400;
 
 /// Four searches. The second and the third lie in the fifth round, and the third after fewer conflicts.
-const TWO_LIE: [(u32, TalkEnd); 4] = [
-    (1000, TalkEnd::Lies),
-    (475, TalkEnd::Lies),
-    (450, TalkEnd::Lies),
-    (1000, TalkEnd::Lies),
-];
+const TWO_LIE: [(u32, TalkEnd); 4] = [LATER, (475, TalkEnd::Lies), (450, TalkEnd::Lies), LATER];
 
 /// The same, but that the second finds no memory in the midst of the third round.
 const ONE_WITHOUT_MEMORY: [(u32, TalkEnd); 4] = [
-    (1000, TalkEnd::Lies),
+    LATER,
     (250, TalkEnd::FindsNoMemory),
     (450, TalkEnd::Lies),
-    (1000, TalkEnd::Lies),
+    LATER,
 ];
 
 /// Four searches that find no memory, the last one in the second round.
@@ -50,18 +45,18 @@ const NONE_WITH_MEMORY: [(u32, TalkEnd); 4] = [
 
 /// Four searches, the second and the third of which are refuted without a further conflict after the fifth round.
 const TWO_REFUTABLE: [(u32, TalkEnd); 4] = [
-    (1000, TalkEnd::Lies),
+    LATER,
     (450, TalkEnd::IsRefutable),
     (430, TalkEnd::IsRefutable),
-    (1000, TalkEnd::Lies),
+    LATER,
 ];
 
 /// The same, but that the third lies in the fifth round.
 const ONE_LIES_BESIDE_A_REFUTABLE: [(u32, TalkEnd); 4] = [
-    (1000, TalkEnd::Lies),
+    LATER,
     (450, TalkEnd::IsRefutable),
     (430, TalkEnd::Lies),
-    (1000, TalkEnd::Lies),
+    LATER,
 ];
 
 /// The answer that this number of workers finds by searches of these ends, with a derivation of at most this many steps.

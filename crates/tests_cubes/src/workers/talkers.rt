@@ -23,6 +23,9 @@ pub enum TalkEnd {
     IsRefutable,
 }
 
+/// A search that would lie after more conflicts than it is ever given: it comes to no end.
+pub const LATER: (u32, TalkEnd) = (1000, TalkEnd::Lies);
+
 /// A search that meets a conflict whenever it is asked. What it learns says that the first variable is true, and rests on what it learned last and on
 /// all that it took since. With the last conflict that it is to have it comes to its end.
 #[derive(Drop)]
