@@ -5,7 +5,7 @@ use crate::engines::verdicts::{DECIDED_TRACES, DecidedTrace, options_of};
 use crate::expectations::expect;
 use crate::short_devices::{failing_at, sink_failing_at, source_of};
 use cube_jobs::{OpenGate, SearchRun};
-use dimacs::{MemorySink, ShortSink};
+use dimacs::ShortSink;
 use std::alloc::Global;
 use std::process::Abort;
 use std::sync::Wait;
@@ -24,28 +24,6 @@ const HEADS: [&[u8]; CERTIFIED] = [
 /// What is written of the certificates that are accepted.
 const LINES: [&[u8]; CERTIFIED] = [b"ACCEPTED cubes=2\n", b"ACCEPTED cubes=1\n"];
 
-/// Returns what the sink takes of the certificate if no device fails. Which derivations it has is not fixed.
-fn whole_certificate<R: Threads + Wait + Abort + Sync>(
-    alloc: Global,
-    rt: &R,
-    verdict: &DecidedTrace,
-) -> MemorySink {
-    let options = options_of(rt, verdict);
-    let mut trace = source_of(verdict.trace);
-    let mut cert = MemorySink::new(alloc);
-    let mut out = MemorySink::new(alloc);
-    let run = SearchRun {
-        alloc,
-        rt,
-        options: &options,
-        gate: &OpenGate,
-    };
-    let outcome = run_certified_verify(&run, &mut trace, &mut cert, &mut out);
-    expect(rt, outcome == Ok(Status::No), 0);
-    expect(rt, out.as_slice() == verdict.report, 0);
-    cert
-}
-
 /// The devices of a run.
 #[derive(Drop)]
 struct Devices {
@@ -61,6 +39,54 @@ fn devices_of(alloc: Global, verdict: &DecidedTrace) -> Devices {
         cert: ShortSink::new(alloc, 1),
         out: ShortSink::new(alloc, 1),
     }
+}
+
+/// What came of a run: its answer, and the sinks of the certificate and of the report.
+#[derive(Drop)]
+struct CertifiedRun {
+    answer: Result<Status, Fault>,
+    cert: ShortSink,
+    out: ShortSink,
+}
+
+/// Runs the engine that certifies over these devices.
+fn run_over<R: Threads + Wait + Abort + Sync>(
+    alloc: Global,
+    rt: &R,
+    verdict: &DecidedTrace,
+    devices: Devices,
+) -> CertifiedRun {
+    let options = options_of(rt, verdict);
+    let Devices {
+        mut trace,
+        mut cert,
+        mut out,
+    } = devices;
+    let run = SearchRun {
+        alloc,
+        rt,
+        options: &options,
+        gate: &OpenGate,
+    };
+    let answer = run_certified_verify(&run, &mut trace, &mut cert, &mut out);
+    CertifiedRun { answer, cert, out }
+}
+
+/// Returns what the sink takes of the certificate if no device fails. Which derivations it has is not fixed.
+fn whole_certificate<R: Threads + Wait + Abort + Sync>(
+    alloc: Global,
+    rt: &R,
+    verdict: &DecidedTrace,
+) -> ShortSink {
+    let CertifiedRun { answer, cert, out } = run_over(
+        alloc,
+        rt,
+        verdict,
+        devices_of(alloc, verdict),
+    );
+    expect(rt, answer == Ok(Status::No), 0);
+    expect(rt, out.as_slice() == verdict.report, 0);
+    cert
 }
 
 /// The answer that is wanted of a run that certifies, and what the sinks of the certificate and of the report have to take.
@@ -89,22 +115,10 @@ fn assert_certifies<R: Threads + Wait + Abort + Sync>(
     wanted: WantedCertifiedRun<'_>,
     number: usize,
 ) {
-    let options = options_of(rt, verdict);
-    let Devices {
-        mut trace,
-        mut cert,
-        mut out,
-    } = devices;
-    let run = SearchRun {
-        alloc,
-        rt,
-        options: &options,
-        gate: &OpenGate,
-    };
-    let outcome = run_certified_verify(&run, &mut trace, &mut cert, &mut out);
-    expect(rt, outcome == wanted.answer, number);
-    expect(rt, cert.as_slice() == wanted.certificate, number);
-    expect(rt, out.as_slice() == wanted.report, number);
+    let run = run_over(alloc, rt, verdict, devices);
+    expect(rt, run.answer == wanted.answer, number);
+    expect(rt, run.cert.as_slice() == wanted.certificate, number);
+    expect(rt, run.out.as_slice() == wanted.report, number);
 }
 
 #[test]
@@ -145,17 +159,18 @@ fn writes_nothing_if_the_source_fails(rt: HostRuntime) {
     }
 }
 
-/// Asserts what is taken if the certificate's sink fails at this call.
-fn assert_certificate<R: Threads + Wait + Abort + Sync>(
-    alloc: Global,
-    rt: &R,
-    verdict: &DecidedTrace,
-    wanted: WantedCertifiedRun<'_>,
-    call: usize,
-) {
+/// Returns devices of which the sink of the certificate fails at this call.
+fn failing_certificate(alloc: Global, verdict: &DecidedTrace, call: usize) -> Devices {
     let mut devices = devices_of(alloc, verdict);
     devices.cert = sink_failing_at(alloc, call);
-    assert_certifies(alloc, rt, verdict, devices, wanted, call);
+    devices
+}
+
+/// Returns devices of which the sink of the report fails at this call.
+fn failing_report(alloc: Global, verdict: &DecidedTrace, call: usize) -> Devices {
+    let mut devices = devices_of(alloc, verdict);
+    devices.out = sink_failing_at(alloc, call);
+    devices
 }
 
 #[test]
@@ -164,8 +179,9 @@ fn writes_no_report_if_the_sink_of_the_certificate_fails(rt: HostRuntime) {
         let sink = whole_certificate(rt.alloc(), &rt, verdict);
         let whole = sink.as_slice();
         for count in 0..whole.len() {
+            let devices = failing_certificate(rt.alloc(), verdict, count + 1);
             let wanted = cut_off(&whole[..count], b"");
-            assert_certificate(rt.alloc(), &rt, verdict, wanted, count + 1);
+            assert_certifies(rt.alloc(), &rt, verdict, devices, wanted, count);
         }
     }
 }
@@ -178,21 +194,9 @@ fn asks_nothing_of_the_sink_of_the_certificate_for_another_report(rt: HostRuntim
             certificate: b"",
             report: verdict.report,
         };
-        assert_certificate(rt.alloc(), &rt, verdict, wanted, 1);
+        let devices = failing_certificate(rt.alloc(), verdict, 1);
+        assert_certifies(rt.alloc(), &rt, verdict, devices, wanted, 1);
     }
-}
-
-/// Asserts what is taken if the report's sink fails at the call after what is wanted of it.
-fn assert_report<R: Threads + Wait + Abort + Sync>(
-    alloc: Global,
-    rt: &R,
-    verdict: &DecidedTrace,
-    wanted: WantedCertifiedRun<'_>,
-) {
-    let call = wanted.report.len().wrapping_add(1);
-    let mut devices = devices_of(alloc, verdict);
-    devices.out = sink_failing_at(alloc, call);
-    assert_certifies(alloc, rt, verdict, devices, wanted, call);
 }
 
 #[test]
@@ -202,14 +206,16 @@ fn writes_the_whole_certificate_before_the_report(rt: HostRuntime) {
         let whole = sink.as_slice();
         let report = verdict.report;
         for count in 0..report.len() {
+            let devices = failing_report(rt.alloc(), verdict, count + 1);
             let wanted = cut_off(whole, &report[..count]);
-            assert_report(rt.alloc(), &rt, verdict, wanted);
+            assert_certifies(rt.alloc(), &rt, verdict, devices, wanted, count);
         }
         let wanted = WantedCertifiedRun {
             answer: Ok(verdict.status),
             certificate: whole,
             report,
         };
-        assert_report(rt.alloc(), &rt, verdict, wanted);
+        let devices = failing_report(rt.alloc(), verdict, report.len() + 1);
+        assert_certifies(rt.alloc(), &rt, verdict, devices, wanted, report.len());
     }
 }

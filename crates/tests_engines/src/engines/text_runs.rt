@@ -1,4 +1,4 @@
-//! Runs of engines that read a trace and other texts, over sources and a sink that move a byte a call and fail at one of their calls.
+//! Runs of engines that read a trace and other texts, or a clause list and a proof, over sources and a sink that move a byte a call and fail at one of their calls.
 
 use crate::engines::wanted_runs::{WantedRun, assert_run, cut_off};
 use crate::short_devices::{SIZES, failing_at, sink_failing_at, source_of};
@@ -6,9 +6,9 @@ use dimacs::ShortSink;
 use part_report::{run_part, run_part_recheck};
 use std::alloc::Global;
 use std::process::Abort;
-use verdict_report::{Fault, ShortSource, Status, run_recheck};
+use verdict_report::{Fault, ShortSource, Status, run_decode, run_lrat, run_recheck};
 
-/// An engine that reads a trace and other texts.
+/// An engine that reads several texts.
 #[derive(Clone, Copy)]
 pub enum TextEngine {
     /// Checks a certificate of the trace.
@@ -17,14 +17,18 @@ pub enum TextEngine {
     PartRecheck,
     /// Makes the part of some names, and shows the names if this is true.
     Part(bool),
+    /// Decodes a model of the clause list of the trace.
+    Decode,
+    /// Checks a proof for a clause list.
+    Lrat,
 }
 
 /// A text that an engine reads.
 #[derive(Clone, Copy, PartialEq, Eq)]
 pub enum RunText {
-    /// The trace.
+    /// The trace, or the clause list.
     Trace,
-    /// The certificate.
+    /// The certificate, the model or the proof.
     Cert,
     /// The names of operations.
     Names,
@@ -79,6 +83,14 @@ impl TextRun {
         }
     }
 
+    /// Returns what is wanted if no device fails.
+    fn wanted(&self) -> WantedRun<'_> {
+        WantedRun {
+            answer: self.answer,
+            taken: self.written,
+        }
+    }
+
     /// Returns how many bytes this text has.
     fn length(&self, text: RunText) -> usize {
         match text {
@@ -112,6 +124,8 @@ fn assert_ends(
         TextEngine::Part(shows_names) => {
             run_part(alloc, &mut trace, &mut names, shows_names, &mut out)
         }
+        TextEngine::Decode => run_decode(alloc, &mut trace, &mut cert, &mut out),
+        TextEngine::Lrat => run_lrat(alloc, &mut trace, &mut cert, &mut out),
     };
     assert_run(rt, answer, out.as_slice(), wanted, number);
 }
@@ -120,12 +134,8 @@ fn assert_ends(
 pub fn assert_sizes(alloc: Global, rt: &impl Abort, runs: &[TextRun]) {
     for run in runs {
         for size in SIZES {
-            let wanted = WantedRun {
-                answer: run.answer,
-                taken: run.written,
-            };
             let devices = run.sound_devices(alloc, size);
-            assert_ends(alloc, rt, run.engine, devices, wanted, size);
+            assert_ends(alloc, rt, run.engine, devices, run.wanted(), size);
         }
     }
 }
@@ -137,6 +147,15 @@ pub fn assert_needs(alloc: Global, rt: &impl Abort, runs: &[TextRun], text: RunT
             let devices = run.failing_devices(alloc, text, call);
             assert_ends(alloc, rt, run.engine, devices, cut_off(b""), call);
         }
+    }
+}
+
+/// Asserts that each of the runs ends as ever if the source of this text fails at the call behind the one that reports its end.
+pub fn assert_asks_no_more(alloc: Global, rt: &impl Abort, runs: &[TextRun], text: RunText) {
+    for run in runs {
+        let call = run.length(text).wrapping_add(2);
+        let devices = run.failing_devices(alloc, text, call);
+        assert_ends(alloc, rt, run.engine, devices, run.wanted(), call);
     }
 }
 

@@ -1,10 +1,10 @@
 //! Lists of clauses, however they are kept: what the calls answer.
 
 use crate::expectations::{ample, expect};
-use crate::formulas::formulas::literals_of;
 use crate::traces::{HAND_OFF, STORE_BUFFERING, THREE_WRITERS, reduced_of};
 use clause_blocks::formula::formula;
 use clause_blocks::trace_clauses::TraceClauses;
+use cnf_text::read_cnf;
 use dimacs::{Assignment, Clause, ClauseList, FirstFalse, Formula, ListedClause, Lit};
 use std::alloc::Global;
 use std::process::Abort;
@@ -67,45 +67,27 @@ fn answers_however_it_is_kept(rt: HostRuntime) {
 }
 
 /// The clauses of store buffering. Its four operations have the order variables 1 to 6, and its two reads 7 and 8.
-const STORE_BUFFERING_CLAUSES: [&[i32]; 14] = [
-    &[1],
-    &[6],
-    &[-1, -4, 2],
-    &[1, 4, -2],
-    &[-1, -5, 3],
-    &[1, 5, -3],
-    &[-2, -6, 3],
-    &[2, 6, -3],
-    &[-4, -6, 5],
-    &[4, 6, -5],
-    &[7],
-    &[-7, 4],
-    &[8],
-    &[-8, -3],
-];
+const STORE_BUFFERING_CLAUSES: &str =
+    "p cnf 8 14\n1 0\n6 0\n-1 -4 2 0\n1 4 -2 0\n-1 -5 3 0\n1 5 -3 0\n-2 -6 3 0\n2 6 -3 0\n-4 -6 5 0\n4 6 -5 0\n7 0\n-7 4 0\n8 0\n-8 -3 0\n";
 
-/// Returns whether the list has a clause at this place, and it is the one of these numbers.
-fn has_clause(
-    rt: &impl Abort,
-    alloc: Global,
-    list: &TraceClauses,
-    place: usize,
-    numbers: &[i32],
-) -> bool {
-    let literals = literals_of(rt, alloc, numbers);
-    place < list.count() && list.clause(place).as_slice() == literals.as_slice()
+/// Returns whether the list has this clause at this place.
+fn has_clause(list: &TraceClauses, place: usize, clause: &Clause) -> bool {
+    place < list.count() && list.clause(place).as_slice() == clause.as_slice()
 }
 
 #[test]
 fn gives_each_clause_of_a_trace_by_its_number(rt: HostRuntime) {
     let reduced = reduced_of(&rt, rt.alloc(), STORE_BUFFERING);
     let list = ample(&rt, TraceClauses::of(rt.alloc(), &reduced));
-    assert!(rt; list.variables() == 8 && list.count() == STORE_BUFFERING_CLAUSES.len());
-    let mut place = 0usize;
-    for numbers in &STORE_BUFFERING_CLAUSES {
-        let is_right = has_clause(&rt, rt.alloc(), &list, place, numbers);
+    let wanted = ample(
+        &rt,
+        read_cnf(rt.alloc(), STORE_BUFFERING_CLAUSES.as_bytes()),
+    );
+    let clauses = wanted.clauses();
+    assert!(rt; list.variables() == 8 && list.count() == clauses.len());
+    for place in 0..clauses.len() {
+        let is_right = has_clause(&list, place, &clauses[place]);
         expect(&rt, is_right, place);
-        place = place.wrapping_add(1);
     }
 }
 
