@@ -1,14 +1,17 @@
 -- Files that are written or read if they are asked for.
 use Rattle.std.specs.Borrow.{Bor}
-use Rattle.std.proofs.Common.{◌≡◌, ◌∙◌, inr, ℕ, Bool, true, false, true≢false, List, [], ◌∷◌, Option, None, Some, Result, ap, refl, subst, sym}
+use Rattle.std.proofs.Common.{◌≡◌, ◌∙◌, inl, inr, ℕ, Bool, true, false, true≢false, List, [], ◌∷◌, Option, None, Some, Result, ap, refl, subst, sym}
+use Rattle.std.specs.Prelude.{Err}
+use Rattle.verdict_report.specs.Engine.{TakeNothing}
 use Rattle.verdict_report.specs.Fault.{exit_status_of}
 use Rattle.verdict_report.specs.Runs.{SinkRun, SourceRun, sink_run, source_run}
 use Rattle.verdict_report.specs.declared.fault.Fault.{Fault}
+use Rattle.verdict_report.specs.declared.fault.Fault.TheVariants.{Device}
 use Rattle.verdict_report.specs.declared.status.Status.{Status}
 use Rattle.command_host.specs.HostCalls.{HostCalls}
 use Rattle.command_host.specs.Streams.{SinkView, SourceView, sink_view, source_view}
 use Rattle.command_run.proofs.RunLemmas.{reads_file}
-use Rattle.command_run.specs.AskedFiles.{ClosesAsked, MakesAsked, file_failures, file_path, file_taken}
+use Rattle.command_run.specs.AskedFiles.{ClosesAsked, FailsToMakeAsked, MakesAsked, file_failures, file_path, file_taken}
 use Rattle.command_run.specs.AskedTexts.{OpensAsked, text_failures, text_handed_out, text_is_at_end, text_path}
 use Rattle.command_line.specs.CommandLine.{is_explained}
 use Rattle.command_line.specs.declared.line.CommandLine.{CommandLine}
@@ -69,6 +72,10 @@ module _ {H I O : Type 0} (calls : HostCalls H I O) where
     with_file from made done to None (Nowhere before) (Made after) outcome makes same does closes = absurd (some_is_none _ same)
     with_file from made done to (Some path) (Nowhere before) after outcome makes same does closes = absurd makes
     with_file from made done to None (Made before) after outcome makes same does closes = absurd makes
+
+    pub without_file : (from to : H) (path : Option (Bor (List ℕ))) → TakeNothing others → FailsToMakeAsked calls from path to → WithFile calls (sink_view written failures path_of) from path Does others (Err Device) to
+    without_file from to (Some path) nothing fails = inl (refl, nothing, fails)
+    without_file from to None nothing fails = absurd fails
 
   -- ---- what standard error takes
 

@@ -1,5 +1,6 @@
 -- How a batch with lines of some form goes on, file by file, and how it ends.
-use Rattle.std.proofs.Common.{◌≡◌, ◌⊎◌, ◌∙◌, ℕ, ◌+◌, List, [], ◌∷◌, ◌++◌, length, refl, sym, ap, subst, inl, inr, append-nil, append_assoc, arith}
+use Rattle.std.specs.Borrow.{Bor}
+use Rattle.std.proofs.Common.{◌≡◌, ◌⊎◌, ◌∙◌, ℕ, ◌+◌, Bool, false, true, Option, None, Some, List, [], ◌∷◌, ◌++◌, length, refl, sym, ap, subst, inl, inr, append-nil, append_assoc, arith}
 use Rattle.std.specs.Prelude.{Result, Ok, Err}
 use Rattle.batch_report.proofs.BlockLemmas.{outcome_is, tally_more}
 use Rattle.batch_report.proofs.EngineLemmas.{taken_of}
@@ -10,11 +11,16 @@ use Rattle.batch_report.specs.Outcome.{no_tally, outcome_of_tally, tally_with_al
 use Rattle.batch_report.specs.declared.tally.VerdictTally.{VerdictTally}
 use Rattle.command_host.specs.HostCalls.{HostCalls}
 use Rattle.command_host.specs.Streams.{SourceView}
-use Rattle.command_run.specs.FormedRuns.{AreLinesOfFiles, DecidesFormed, FindsFormed, FinishesFormedFiles, HasFormed, RunsFormed, StopsInFormedFile, all_found}
+use Rattle.command_line.specs.declared.line.BatchOutput.{BatchOutput}
+use Rattle.command_run.specs.AskedFiles.{FailsToMakeAsked}
+use Rattle.command_run.specs.BatchRuns.{RunsBatch}
+use Rattle.command_run.specs.FormedRuns.{AreLinesOfFiles, DecidesFormed, FindsFormed, FinishesFormedFiles, HasFormed, MakesAskedFolder, RunsBatchIf, RunsFormed, StopsInFormedFile, WithFolder, all_found, meaning_of}
 use Rattle.command_run.specs.ReadFiles.{ReadsFile}
 use Rattle.dimacs.specs.declared.sink_fault.SinkFault.{SinkFault}
 use Rattle.verdict_report.specs.declared.fault.Fault.{Fault}
+use Rattle.verdict_report.specs.declared.fault.Fault.TheVariants.{Device}
 use Rattle.verdict_report.specs.declared.status.Status.{Status}
+use Rattle.verdict_report.specs.Engine.{TakesNothing}
 use Rattle.verdict_report.specs.Fault.{fault_of_sink}
 use Rattle.verdict_report.specs.Runs.{SinkRun, SourceRun}
 
@@ -117,3 +123,29 @@ module _ {H I O : Type 0} (calls : HostCalls H I O) (read : SourceView I) (means
     whole = come.whole;
     result_is = is ∙ ap outcome_of_tally come.tallied ∙ outcome_is (verdicts_of (all_found come.found));
   })
+
+module _ {H I O : Type 0} (calls : HostCalls H I O) where
+  -- ---- a folder
+
+  module _ (Does : H → Type 0) (out : SinkRun) where
+    pub with_folder : (from made : H) (folder : Option (Bor (List ℕ))) (result : Result Status Fault) (to : H) → MakesAskedFolder calls from folder made → Does made → WithFolder calls from folder Does out result to
+    with_folder from made (Some folder) result to makes does = inr (made, makes, does)
+    with_folder from made None result to makes does = subst Does makes does
+
+    pub without_folder : (from to : H) (folder : Option (Bor (List ℕ))) → TakesNothing out → FailsToMakeAsked calls from folder to → WithFolder calls from folder Does out (Err Device) to
+    without_folder from to (Some folder) nothing fails = inl (refl, nothing, fails)
+    without_folder from to None nothing fails = absurd fails
+
+  -- ---- what is asked for
+
+  module _ (read : SourceView I) (from : H) (paths : List (List ℕ)) (out : SinkRun) (result : Result Status Fault) (to : H) where
+    pub plain_alone : (output : BatchOutput) (more : Bool) → more ≡ false → RunsBatch calls read from paths out result to → RunsBatchIf more calls read output from paths out result to
+    plain_alone output false alone runs = runs
+    plain_alone output true alone runs = absurd (cc)
+
+    pub with_more : (output : BatchOutput) (more : Bool) → more ≡ true → (is_json : Bool) → output.json ≡ is_json
+        → WithFolder calls from output.keep (λ made. RunsFormed calls read (meaning_of is_json calls) made paths out result to) out result to
+        → RunsBatchIf more calls read output from paths out result to
+    with_more output false asked is_json json runs = absurd (cc)
+    with_more output true asked is_json json runs =
+        subst (λ (is_json : Bool). WithFolder calls from output.keep (λ made. RunsFormed calls read (meaning_of is_json calls) made paths out result to) out result to) (sym json) runs

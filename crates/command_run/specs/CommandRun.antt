@@ -174,18 +174,16 @@ WithFile calls wrote from (Some path) Does others outcome to =
     ((outcome ≡ Err Device) × TakeNothing others × calls.fails_to_make from path.now to) ⊎ MakesFile calls wrote from path.now Does outcome to
 WithFile calls wrote from None Does others outcome to = (nowhere : SinkRun) × (nowhere.before ≡ []) × (nowhere.failures_before ≡ 0) × (nowhere.failures_now ≡ 0) × Does from nowhere to
 
--- with a file for the part; with one for the names before it; with one for the certificate before both, so all before the trace is opened
-abbrev pub TakesPart : {H I O : Type 0} → HostCalls H I O → SourceView I → SinkView O → H → SurveyInputs → Option (Bor (List ℕ)) → SearchRequest → (cert names out : SinkRun) → Result Status Fault → H → Type 0
-TakesPart calls read wrote from inputs path search cert names out outcome to =
-    WithFile calls wrote from path (λ made part done. CertifiesSurveyed calls read made inputs search cert names part out outcome done) (out ∷ cert ∷ names ∷ []) outcome to
-
-abbrev pub TakesNamesAndPart : {H I O : Type 0} → HostCalls H I O → SourceView I → SinkView O → H → SurveyInputs → (names part : Option (Bor (List ℕ))) → SearchRequest → (cert out : SinkRun) → Result Status Fault → H → Type 0
-TakesNamesAndPart calls read wrote from inputs path part search cert out outcome to =
-    WithFile calls wrote from path (λ made names done. TakesPart calls read wrote made inputs part search cert names out outcome done) (out ∷ cert ∷ []) outcome to
-
-abbrev pub TakesCore : {H I O : Type 0} → HostCalls H I O → SourceView I → SinkView O → H → SurveyInputs → (cert names part : Option (Bor (List ℕ))) → SearchRequest → SinkRun → Result Status Fault → H → Type 0
-TakesCore calls read wrote from inputs path names part search out outcome to =
-    WithFile calls wrote from path (λ made cert done. TakesNamesAndPart calls read wrote made inputs names part search cert out outcome done) (out ∷ []) outcome to
+-- with a file for the certificate, one for the names and one for the part: all are made in this order before the trace is opened, and are given back
+-- in the other one
+abbrev pub TakesCore : {H I O : Type 0} → HostCalls H I O → SourceView I → SinkView O → H → SurveyInputs → SurveyFiles → SearchRequest → SinkRun → Result Status Fault → H → Type 0
+TakesCore calls read wrote from inputs files search out outcome to =
+    WithFile calls wrote from files.cert (λ made_cert cert done_cert.
+    WithFile calls wrote made_cert files.names (λ made_names names done_names.
+    WithFile calls wrote made_names files.part (λ made part done. CertifiesSurveyed calls read made inputs search cert names part out outcome done)
+    (out ∷ cert ∷ names ∷ []) outcome done_names)
+    (out ∷ cert ∷ []) outcome done_cert)
+    (out ∷ []) outcome to
 
 -- no file is asked for that takes what shows an INCONSISTENT
 abbrev pub takes_none : SurveyFiles → Bool
@@ -199,7 +197,7 @@ inputs_of_survey trace files = record { trace = trace; hint = files.hint }
 abbrev pub RunsSurveyIf : {H I O : Type 0} → Bool → HostCalls H I O → SourceView I → SinkView O → H → SurveyInputs → SurveyFiles → SearchRequest → SinkRun → Result Status Fault → H → Type 0
 RunsSurveyIf true calls read wrote from inputs files search out outcome to = RunsSurveyed calls read from inputs search out outcome to
 RunsSurveyIf false calls read wrote from inputs files search out outcome to =
-    TakesCore calls read wrote from inputs files.cert files.names files.part search out outcome to
+    TakesCore calls read wrote from inputs files search out outcome to
 
 abbrev pub RunsSurvey : {H I O : Type 0} → HostCalls H I O → SourceView I → SinkView O → H → Bor (List ℕ) → SurveyFiles → SearchRequest → SinkRun → Result Status Fault → H → Type 0
 RunsSurvey calls read wrote from trace files search out outcome to =

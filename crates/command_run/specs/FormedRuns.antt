@@ -126,6 +126,11 @@ RunsBatchWith calls read output from paths out result to = RunsBatchIf (asks_mor
 
 -- ---- as it goes on
 
+-- the folder was made, or there is no path for one, and nothing was asked of the host
+abbrev pub MakesAskedFolder : {H I O : Type 0} → HostCalls H I O → H → Option (Bor (List ℕ)) → H → Type 0
+MakesAskedFolder calls from (Some folder) to = calls.makes_folder from folder.now to
+MakesAskedFolder calls from None to = to ≡ from
+
 -- the file at this path was handed out to be read, and its traces were decided, after this was counted
 pub record DecidesFormed {H I O : Type 0} (calls : HostCalls H I O) (read : SourceView I) (means : LineMeaning H) (from : H) (path : List ℕ) (counted : VerdictTally) (out : SinkRun) (result : Result VerdictTally SinkFault) (to : H) : Type 0 where
   pub file : SourceRun

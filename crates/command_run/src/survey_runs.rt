@@ -6,7 +6,7 @@
 //! What is kept of the trace's text goes into `KeptRun` whatever the outcome is: after the run an explanation or a picture may be made of it.
 ghost use Rattle.std.specs.Prelude.{◌≡◌};
 ghost use Rattle.command_host.specs.Streams.{sink_view, source_view};
-ghost use Rattle.command_run.specs.CommandRun.{RunsSurvey, TakesCore, TakesNamesAndPart, TakesPart, inputs_of_survey, takes_none};
+ghost use Rattle.command_run.specs.CommandRun.{RunsSurvey, TakesCore, inputs_of_survey, takes_none};
 ghost use Rattle.verdict_report.specs.Runs.{sink_run};
 
 use crate::asked_file::{close_asked, make_asked};
@@ -32,62 +32,8 @@ pub(crate) struct SurveyPaths<'p> {
     pub(crate) files: SurveyFiles<'p>,
 }
 
-/// Runs the survey with the sinks for the certificate and for the names, and with a file for the part if there is a path for it. The file is made or
-/// opened first, and `Device` is answered if that is not possible. `CoreSinks` owns its sinks, so these two are given back for the callers to close.
-fn with_part<'p, R: Threads + Wait + Sync, G: Gate + Sync, H: Host<'p>, C: Sink, N: Sink, W: Sink>(
-    asked: &AskedSurvey<'_, 'p, R, G>,
-    host: &mut H,
-    cert: C,
-    names: N,
-    out: &mut W,
-    kept: &mut KeptRun,
-) -> (Result<Status, Fault>, C, N)
-    ensures runs { TakesPart H.calls (source_view H.Input.handed_out H.Input.is_at_end H.Input.failures H.Input.path)
-        (sink_view H.Output.written H.Output.failures H.Output.path)
-        host.old asked.now.inputs asked.now.files.part asked.now.search.now
-        (sink_run C.written C.failures cert result.1)
-        (sink_run N.written N.failures names result.2)
-        (sink_run W.written W.failures out.old out.new)
-        result.0 host.new }
-    ensures same_cert { C.path result.1 ≡ C.path cert }
-    ensures same_names { N.path result.2 ≡ N.path names }
-{
-    let Ok(part) = make_asked(host, asked.files.part) else {
-        return (Err(Fault::Device), cert, names);
-    };
-    let mut sinks = CoreSinks { cert, names, part };
-    let outcome = certify_opened(asked, host, &mut sinks, out, kept);
-    let CoreSinks { cert, names, part } = sinks;
-    close_asked(host, part);
-    (outcome, cert, names)
-}
-
-/// Does so with the certificate's sink, and a file for the names if there is a path for it, which is made or opened before that for the part. The sink is
-/// given back.
-fn with_names<'p, R: Threads + Wait + Sync, G: Gate + Sync, H: Host<'p>, C: Sink, W: Sink>(
-    asked: &AskedSurvey<'_, 'p, R, G>,
-    host: &mut H,
-    cert: C,
-    out: &mut W,
-    kept: &mut KeptRun,
-) -> (Result<Status, Fault>, C)
-    ensures runs { TakesNamesAndPart H.calls (source_view H.Input.handed_out H.Input.is_at_end H.Input.failures H.Input.path)
-        (sink_view H.Output.written H.Output.failures H.Output.path)
-        host.old asked.now.inputs asked.now.files.names asked.now.files.part asked.now.search.now
-        (sink_run C.written C.failures cert result.1)
-        (sink_run W.written W.failures out.old out.new)
-        result.0 host.new }
-    ensures same_cert { C.path result.1 ≡ C.path cert }
-{
-    let Ok(names) = make_asked(host, asked.files.names) else {
-        return (Err(Fault::Device), cert);
-    };
-    let (outcome, cert, names) = with_part(asked, host, cert, names, out, kept);
-    close_asked(host, names);
-    (outcome, cert)
-}
-
-/// Does so with a file for each that there is a path for. That for the certificate is made or opened first.
+/// Runs the survey with a file for the certificate, one for the names and one for the part, each if there is a path for it. They are made or opened in this
+/// order, and `Device` is answered if that is not possible for one of them. Those that were made are given back in the other order, whatever comes of it.
 fn with_core<'p, R: Threads + Wait + Sync, G: Gate + Sync, H: Host<'p>, W: Sink>(
     asked: &AskedSurvey<'_, 'p, R, G>,
     host: &mut H,
@@ -96,14 +42,27 @@ fn with_core<'p, R: Threads + Wait + Sync, G: Gate + Sync, H: Host<'p>, W: Sink>
 ) -> Result<Status, Fault>
     ensures { TakesCore H.calls (source_view H.Input.handed_out H.Input.is_at_end H.Input.failures H.Input.path)
         (sink_view H.Output.written H.Output.failures H.Output.path)
-        host.old asked.now.inputs asked.now.files.cert asked.now.files.names asked.now.files.part asked.now.search.now
+        host.old asked.now.inputs asked.now.files asked.now.search.now
         (sink_run W.written W.failures out.old out.new)
         result host.new }
 {
     let Ok(cert) = make_asked(host, asked.files.cert) else {
         return Err(Fault::Device);
     };
-    let (outcome, cert) = with_names(asked, host, cert, out, kept);
+    let Ok(names) = make_asked(host, asked.files.names) else {
+        close_asked(host, cert);
+        return Err(Fault::Device);
+    };
+    let Ok(part) = make_asked(host, asked.files.part) else {
+        close_asked(host, names);
+        close_asked(host, cert);
+        return Err(Fault::Device);
+    };
+    let mut sinks = CoreSinks { cert, names, part };
+    let outcome = certify_opened(asked, host, &mut sinks, out, kept);
+    let CoreSinks { cert, names, part } = sinks;
+    close_asked(host, part);
+    close_asked(host, names);
     close_asked(host, cert);
     outcome
 }
