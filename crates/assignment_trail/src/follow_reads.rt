@@ -4,7 +4,7 @@
 use crate::ordered_trail::OrderedTrail;
 use crate::trail::{FALSE, OPEN};
 use clause_database::{ReadsFromTable, ReadsFromVariable, Reason, ReasonClause};
-use order_sets::next_element;
+use order_sets::{Element, next_element};
 use proof_log::codes::{LiteralCode, NEVER, Variable};
 
 /// A reads-from clause as the reason of a literal: the reads-from variable, and a writer that must not come between. If the writer is the chosen
@@ -12,7 +12,7 @@ use proof_log::codes::{LiteralCode, NEVER, Variable};
 #[derive(Clone, Copy)]
 struct Because {
     choice: Variable,
-    writer: u32,
+    writer: Element,
 }
 
 impl<'a> OrderedTrail<'a> {
@@ -21,7 +21,7 @@ impl<'a> OrderedTrail<'a> {
         &self,
         reads_from: &ReadsFromTable,
         variable: Variable,
-        writer: u32,
+        writer: Element,
     ) -> ReasonClause {
         let Some(choice) = reads_from.choice(variable) else {
             return ReasonClause::none();
@@ -69,7 +69,7 @@ impl<'a> OrderedTrail<'a> {
         &mut self,
         reads_from: &ReadsFromTable,
         choice: Variable,
-        writer: u32,
+        writer: Element,
     ) -> Result<(), ReasonClause> {
         self.imply(reads_from, choice.negative(), Because { choice, writer })
     }
@@ -79,8 +79,8 @@ impl<'a> OrderedTrail<'a> {
     fn follow_writer(
         &mut self,
         reads_from: &ReadsFromTable,
-        writer: u32,
-        reader: u32,
+        writer: Element,
+        reader: Element,
     ) -> Result<(), ReasonClause> {
         let first = reads_from.variable_without_writer(reader);
         if first != Variable::NONE {
@@ -95,7 +95,7 @@ impl<'a> OrderedTrail<'a> {
     /// Returns whether nothing follows for the reader's sources from that the writer is ordered before it: none that is open stands before the writer, and
     /// none is chosen. Of nine in ten literals nothing follows, so this is asked before any loop over sources.
     #[inline(always)]
-    fn hides_nothing(&self, writer: u32, reader: u32) -> bool {
+    fn hides_nothing(&self, writer: Element, reader: Element) -> bool {
         let before = self.order().predecessors();
         self.candidates.chosen.is_empty(reader)
             && self.candidates.writers.is_disjoint(reader, before, writer)
@@ -105,8 +105,8 @@ impl<'a> OrderedTrail<'a> {
     fn hide_sources(
         &mut self,
         reads_from: &ReadsFromTable,
-        writer: u32,
-        reader: u32,
+        writer: Element,
+        reader: Element,
     ) -> Result<(), ReasonClause> {
         for number in 0..self.candidates.writers.words() {
             let before = self.order().predecessors().word(writer, number);
@@ -138,8 +138,8 @@ impl<'a> OrderedTrail<'a> {
     fn follow_writers(
         &mut self,
         reads_from: &ReadsFromTable,
-        first: u32,
-        second: u32,
+        first: Element,
+        second: Element,
     ) -> Result<(), ReasonClause> {
         if self.cuts_nothing_off(first, second) {
             return Ok(());
@@ -150,7 +150,7 @@ impl<'a> OrderedTrail<'a> {
     /// Returns whether nothing follows for the readers of the first writer from that it is ordered before the second: none that may read it stands behind the
     /// second, and those that read it stand before the second.
     #[inline(always)]
-    fn cuts_nothing_off(&self, first: u32, second: u32) -> bool {
+    fn cuts_nothing_off(&self, first: Element, second: Element) -> bool {
         let before = self.order().predecessors();
         let behind = self.order().successors();
         self.candidates.chosen_by.is_subset(first, before, second)
@@ -161,8 +161,8 @@ impl<'a> OrderedTrail<'a> {
     fn cut_readers_off(
         &mut self,
         reads_from: &ReadsFromTable,
-        first: u32,
-        second: u32,
+        first: Element,
+        second: Element,
     ) -> Result<(), ReasonClause> {
         for number in 0..self.candidates.readers.words() {
             let behind = self.order().successors().word(second, number);
@@ -215,7 +215,7 @@ impl<'a> OrderedTrail<'a> {
         &mut self,
         reads_from: &ReadsFromTable,
         choice: ReadsFromVariable,
-        chosen: u32,
+        chosen: Element,
     ) -> Result<(), ReasonClause> {
         let reader = choice.reader;
         let literal = self.before(chosen, reader);

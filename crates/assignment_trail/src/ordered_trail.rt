@@ -4,7 +4,7 @@ use crate::activities::Activities;
 use crate::candidates::Candidates;
 use crate::trail::Trail;
 use clause_database::{EncodingHints, ReadsFromTable, Reason, ReasonClause, Store};
-use order_sets::{OrderMatrix, TripleIds};
+use order_sets::{Element, OrderMatrix, TripleIds};
 use proof_log::ClauseId;
 use proof_log::codes::{LiteralCode, NEVER, Variable};
 use std::alloc::{AllocError, Global};
@@ -69,13 +69,13 @@ impl<'a> OrderedTrail<'a> {
 
     /// Returns the literal which says that the first of two elements stands before the second.
     #[inline(always)]
-    pub fn before(&self, a: u32, b: u32) -> LiteralCode {
+    pub fn before(&self, a: Element, b: Element) -> LiteralCode {
         LiteralCode::new(self.order.literal(a, b))
     }
 
     /// Returns the elements of which an order literal says that the first stands before the second.
     #[inline(always)]
-    pub(crate) fn ends(&self, literal: LiteralCode) -> (u32, u32) {
+    pub(crate) fn ends(&self, literal: LiteralCode) -> (Element, Element) {
         self.order.ends(literal.code())
     }
 
@@ -181,7 +181,7 @@ impl<'a> OrderedTrail<'a> {
             ranks.push(
                 self.order
                     .predecessors()
-                    .count(element)
+                    .count(Element::new(element))
                     .wrapping_mul(256)
                     .wrapping_add(element),
             )?;
@@ -195,6 +195,6 @@ impl<'a> OrderedTrail<'a> {
             return None;
         }
         let (a, b) = self.ends(variable.positive());
-        Some(at(ranks, a, 0) < at(ranks, b, 0))
+        Some(at(ranks, a.number(), 0) < at(ranks, b.number(), 0))
     }
 }

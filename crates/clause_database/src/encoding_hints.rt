@@ -1,7 +1,7 @@
 //! Hints about the structure of an encoding.
 
 use crate::reads_from::{ReadsFromTable, ReadsFromVariable};
-use order_sets::{MAX_ELEMENTS, pair_count, transitivity_count, variable_of_pair};
+use order_sets::{Element, MAX_ELEMENTS, pair_count, transitivity_count, variable_of_pair};
 use proof_log::ClauseId;
 use proof_log::codes::Variable;
 use total_tables::size;
@@ -97,7 +97,7 @@ impl<'a> EncodingHints<'a> {
     }
 
     /// Returns the order variable of these two events.
-    pub fn variable_of_pair(self, a: u32, b: u32) -> Variable {
+    pub fn variable_of_pair(self, a: Element, b: Element) -> Variable {
         Variable::new(variable_of_pair(self.elements, a, b))
     }
 

@@ -1,6 +1,6 @@
 //! Hints about the reads-from variables of an encoding.
 
-use order_sets::{ElementSets, MAX_ELEMENTS};
+use order_sets::{Element, ElementSets, MAX_ELEMENTS};
 use proof_log::ClauseId;
 use proof_log::codes::Variable;
 use std::alloc::{AllocError, Global};
@@ -15,9 +15,9 @@ const MAX_VARIABLES: u32 = 1 << 16;
 pub struct ReadsFromVariable {
     pub variable: u32,
     /// The element that reads.
-    pub reader: u32,
+    pub reader: Element,
     /// The writer, or none for the initial value.
-    pub writer: Option<u32>,
+    pub writer: Option<Element>,
     /// The number of the first of its clauses, counted from 1.
     pub first: u32,
 }
@@ -27,7 +27,7 @@ pub struct ReadsFromVariable {
 pub struct LastWriter {
     /// The variable which says that it is the last one.
     pub variable: u32,
-    pub writer: u32,
+    pub writer: Element,
     /// The number of the clause that says that one of the location's last writers is the last one, counted from 1.
     pub clause: u32,
     /// The number of the first of its own clauses.
@@ -106,10 +106,10 @@ impl ReadsFromTable {
 
     /// Notes that the writer writes the location that the element reads or writes. Does nothing if both are the same, or if the writer is
     /// no element of the order.
-    pub fn add_writer(&mut self, element: u32, writer: u32) {
-        if element != writer && writer < self.elements {
+    pub fn add_writer(&mut self, element: Element, writer: Element) {
+        if element != writer && writer.number() < self.elements {
             self.writers.insert(element, writer);
-            put(self.writing.as_mut_slice(), writer, 1);
+            put(self.writing.as_mut_slice(), writer.number(), 1);
         }
     }
 
@@ -118,12 +118,16 @@ impl ReadsFromTable {
     pub fn add_choice(&mut self, choice: ReadsFromVariable) -> Result<(), AllocError> {
         let variable = Variable::new(choice.variable);
         let place = self.place_of_variable(variable);
-        let column = choice.writer.unwrap_or(self.elements);
+        let reader = choice.reader.number();
+        let column = match choice.writer {
+            Some(writer) => writer.number(),
+            None => self.elements,
+        };
         if place >= MAX_VARIABLES
             || (place as usize) < self.choices.len()
-            || choice.reader >= self.elements
+            || reader >= self.elements
             || column > self.elements
-            || column == choice.reader
+            || column == reader
         {
             return Ok(());
         }
@@ -134,9 +138,9 @@ impl ReadsFromTable {
         let place = self.place_of(choice.reader, column);
         put(self.variables.as_mut_slice(), place, variable);
         if column == self.elements {
-            put(self.without_writer.as_mut_slice(), choice.reader, variable);
+            put(self.without_writer.as_mut_slice(), reader, variable);
         }
-        put(self.reading.as_mut_slice(), choice.reader, 1);
+        put(self.reading.as_mut_slice(), reader, 1);
         Ok(())
     }
 
@@ -154,8 +158,9 @@ impl ReadsFromTable {
 
     /// Returns the place of the choice of this reader in `variables`. The column is its writer, or the number of elements without one.
     #[inline(always)]
-    fn place_of(&self, reader: u32, column: u32) -> u32 {
+    fn place_of(&self, reader: Element, column: u32) -> u32 {
         reader
+            .number()
             .wrapping_mul(self.elements.wrapping_add(1))
             .wrapping_add(column)
     }
@@ -176,7 +181,7 @@ impl ReadsFromTable {
     }
 
     /// Returns the place of the writer among those of its location, counted from 0. Its own set has the others, so those below it are counted.
-    pub fn place_of_writer(&self, writer: u32) -> u32 {
+    pub fn place_of_writer(&self, writer: Element) -> u32 {
         self.writers.count_below(writer, writer)
     }
 
@@ -195,41 +200,43 @@ impl ReadsFromTable {
 
     /// Returns the variable of the choice of this reader and this writer, or none.
     #[inline(always)]
-    pub fn variable(&self, reader: u32, writer: u32) -> Variable {
+    pub fn variable(&self, reader: Element, writer: Element) -> Variable {
         at(
             self.variables.as_slice(),
-            self.place_of(reader, writer),
+            self.place_of(reader, writer.number()),
             Variable::NONE,
         )
     }
 
     /// Returns the variable of the choice of this reader without a writer, or none.
     #[inline(always)]
-    pub fn variable_without_writer(&self, reader: u32) -> Variable {
-        at(self.without_writer.as_slice(), reader, Variable::NONE)
+    pub fn variable_without_writer(&self, reader: Element) -> Variable {
+        at(
+            self.without_writer.as_slice(),
+            reader.number(),
+            Variable::NONE,
+        )
     }
 
     /// Returns whether the element writes a location of others.
     #[inline(always)]
-    pub fn writes(&self, element: u32) -> bool {
-        at(self.writing.as_slice(), element, 0) != 0
+    pub fn writes(&self, element: Element) -> bool {
+        at(self.writing.as_slice(), element.number(), 0) != 0
     }
 
     /// Returns the event that represents the location of this one: the first of its writers. So locations need no numbers of their own, which
     /// a caller would have to give.
-    pub fn location(&self, element: u32) -> u32 {
-        // It is 192 if no other event writes the location, which the event then represents itself.
-        let first = self.writers.first(element);
-        if self.writes(element) || first >= self.elements {
-            element.min(first)
-        } else {
-            first
+    pub fn location(&self, element: Element) -> Element {
+        match self.writers.first(element) {
+            Some(first) if first < element || !self.writes(element) => first,
+            // An event represents its location itself if no other one writes it, or only later ones do.
+            _ => element,
         }
     }
 
     /// Returns whether the element reads.
-    pub fn reads(&self, element: u32) -> bool {
-        at(self.reading.as_slice(), element, 0) != 0
+    pub fn reads(&self, element: Element) -> bool {
+        at(self.reading.as_slice(), element.number(), 0) != 0
     }
 
     /// Returns the id after the last clause of the variable: it has one for each writer.
@@ -238,7 +245,7 @@ impl ReadsFromTable {
     }
 
     /// Returns the number of the choice's clause for this writer.
-    pub fn clause_of(&self, choice: ReadsFromVariable, writer: u32) -> ClauseId {
+    pub fn clause_of(&self, choice: ReadsFromVariable, writer: Element) -> ClauseId {
         let place = self.writers.count_below(choice.reader, writer);
         let place = match choice.writer {
             None => place,

@@ -1,5 +1,6 @@
 //! Reasons of literals, in a few words each: every literal that becomes true writes one, and only those of a conflict are read.
 
+use order_sets::Element;
 use proof_log::ClauseId;
 use proof_log::codes::{LiteralCode, NEVER, Variable};
 use total_tables::at;
@@ -19,14 +20,14 @@ pub enum Reason {
     Stored {
         place: u32,
     },
-    /// Transitivity of the order, via this event: one number, from which the clause and its id are computed.
+    /// Transitivity of the order, via this event: one element, from which the clause and its id are computed.
     Transitive {
-        element: u32,
+        element: Element,
     },
     /// The clause of this reads-from variable for this writer.
     Choice {
         choice: Variable,
-        writer: u32,
+        writer: Element,
     },
 }
 

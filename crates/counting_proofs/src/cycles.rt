@@ -4,15 +4,16 @@
 use crate::elimination::{Elimination, Side};
 use crate::step_log::StepLog;
 use crate::units::UnitTable;
+use order_sets::Element;
 use proof_log::codes::{LiteralCode, NEVER};
 use source_matching::{MatchingInstance, OrderClauses, SourceCycle};
 use std::alloc::{AllocError, Global};
 
 /// Returns the operation of the reader.
-fn operation_of(reads: &MatchingInstance, reader: u32) -> u32 {
+fn operation_of(reads: &MatchingInstance, reader: u32) -> Element {
     match reads.reader(reader).update {
         Some(update) => update.operation,
-        None => u32::MAX,
+        None => Element::NONE,
     }
 }
 
@@ -34,10 +35,11 @@ fn add_clause(
         if choice.is_excluded {
             hints.push(units.hint(LiteralCode::new(choice.literal()).negated()))?;
         } else {
-            literals.push(elimination.literal(choice.source, operation))?;
+            let source = Element::new(choice.source);
+            literals.push(elimination.literal(source, operation))?;
             // The first clause of a choice says that the source stands before the reader. With that denied the choice is not made.
             hints.push(i64::from(choice.first))?;
-            elimination.set_other(place, elimination.place_of(choice.source));
+            elimination.set_other(place, elimination.place_of(source));
         }
     }
     hints.push(i64::from(reads.reader(reader).clause))?;

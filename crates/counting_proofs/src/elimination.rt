@@ -5,7 +5,7 @@
 //! The clause which says that one of the own literals is true is what `cycles` and `last_writer` go on with.
 
 use crate::step_log::StepLog;
-use order_sets::TripleIds;
+use order_sets::{Element, TripleIds};
 use proof_log::ClauseId;
 use proof_log::codes::{LiteralCode, NEVER};
 use source_matching::{Grid, OrderClauses};
@@ -25,7 +25,7 @@ pub struct Elimination {
     order: OrderClauses,
     cycles: TripleIds,
     side: Side,
-    operations: Vec<u32>,
+    operations: Vec<Element>,
     /// For each operation 1 at those others of which its clause speaks.
     others: Grid<u8>,
     /// For each operation its own literal, or the constant that is never true.
@@ -57,7 +57,7 @@ impl Elimination {
         alloc: Global,
         order: OrderClauses,
         side: Side,
-        operations: Vec<u32>,
+        operations: Vec<Element>,
         own: Vec<LiteralCode>,
     ) -> Result<Elimination, AllocError> {
         let count = size(operations.as_slice());
@@ -74,7 +74,7 @@ impl Elimination {
     }
 
     /// Returns the place of this operation among those that are eliminated, or `u32::MAX` if it is none of them: at that place the tables record nothing.
-    pub fn place_of(&self, operation: u32) -> u32 {
+    pub fn place_of(&self, operation: Element) -> u32 {
         let place = self
             .operations
             .as_slice()
@@ -87,7 +87,7 @@ impl Elimination {
     }
 
     /// Returns the literal that says that the other one stands on this side of the operation.
-    pub fn literal(&self, other: u32, operation: u32) -> LiteralCode {
+    pub fn literal(&self, other: Element, operation: Element) -> LiteralCode {
         let code = match self.side {
             Side::Before => self.order.before(other, operation),
             Side::Behind => self.order.before(operation, other),
@@ -97,7 +97,7 @@ impl Elimination {
 
     /// Returns the number of the transitivity clause which says that what stands on this side of the one between stands on this side of the
     /// operation, if the one between does.
-    pub fn step(&self, other: u32, between: u32, operation: u32) -> i64 {
+    pub fn step(&self, other: Element, between: Element, operation: Element) -> i64 {
         let clause = match self.side {
             Side::Before => self.cycles.of_cycle(other, between, operation),
             Side::Behind => self.cycles.of_cycle(operation, between, other),
@@ -131,13 +131,13 @@ impl Elimination {
         last: u32,
         place: u32,
     ) -> Result<(), AllocError> {
-        let operation = at(self.operations.as_slice(), place, 0);
-        let out = at(self.operations.as_slice(), last, 0);
+        let operation = at(self.operations.as_slice(), place, Element::NONE);
+        let out = at(self.operations.as_slice(), last, Element::NONE);
         let mut literals = Vec::new(alloc);
         let mut hints = Vec::new(alloc);
         hints.push(self.clause(place).hint())?;
         for other in 0..last {
-            let its = at(self.operations.as_slice(), other, 0);
+            let its = at(self.operations.as_slice(), other, Element::NONE);
             if other != place && self.others.get(last, other) == 1 {
                 hints.push(self.step(its, out, operation))?;
                 self.others.set(place, other, 1);

@@ -3,6 +3,7 @@
 use crate::elimination::{Elimination, Side};
 use crate::step_log::StepLog;
 use crate::units::UnitTable;
+use order_sets::Element;
 use proof_log::ClauseId;
 use proof_log::codes::{LiteralCode, NEVER};
 use source_matching::{KnownOrder, LastWriters, MatchingInstance, Reader};
@@ -34,7 +35,7 @@ fn define_last(
     log: &mut StepLog,
     ending: &LastWriters,
     known: KnownOrder<'_>,
-    candidate: u32,
+    candidate: Element,
 ) -> Result<Defined, AllocError> {
     let literal = log.new_variable();
     let mut literals = Vec::new(alloc);
@@ -66,7 +67,7 @@ fn add_clause(
     log: &mut StepLog,
     cited: CitedWriters<'_>,
     elimination: &mut Elimination,
-    candidate: u32,
+    candidate: Element,
     defined: Defined,
 ) -> Result<(), AllocError> {
     let CitedWriters {
@@ -156,7 +157,7 @@ pub fn add_last_writer(
         units,
     };
     for place in 0..size(ending.candidates()) {
-        let candidate = at(ending.candidates(), place, 0);
+        let candidate = at(ending.candidates(), place, Element::NONE);
         let its = at(defined.as_slice(), place, nothing);
         add_clause(alloc, log, cited, &mut elimination, candidate, its)?;
     }

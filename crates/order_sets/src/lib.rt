@@ -4,12 +4,14 @@
 //! Nothing here is trusted: callers check what comes of it, by a model's evaluation or by a derivation's check.
 #![tactic(auto)]
 
+mod element;
 mod element_sets;
 mod order_matrix;
 mod order_numbers;
 mod triple_ids;
 
-pub use element_sets::{ElementSets, MAX_ELEMENTS, next_element};
+pub use element::Element;
+pub use element_sets::{ElementSets, MAX_ELEMENTS, next_bit, next_element};
 pub use order_matrix::{Implied, OrderMatrix};
 pub use order_numbers::{pair_count, transitivity_count, variable_of_pair};
 pub use triple_ids::TripleIds;

@@ -1,5 +1,6 @@
 //! A transitively closed strict order as sets of bits.
 
+use crate::element::Element;
 use crate::element_sets::{ElementSets, MAX_ELEMENTS, next_element};
 use crate::order_numbers::{pair_count, pairs_below, variable_of_pair};
 use std::alloc::{AllocError, Global};
@@ -11,7 +12,7 @@ pub struct Implied {
     /// Twice the number of its variable, plus one if it is negative.
     pub literal: u32,
     /// The element between the two that the literal puts in order.
-    pub over: u32,
+    pub over: Element,
 }
 
 /// A strict order of elements. For each element there are two sets, of those after it and of those before it, and
@@ -43,7 +44,7 @@ impl OrderMatrix {
         let variables = pair_count(elements);
         let nothing = Implied {
             literal: 0,
-            over: 0,
+            over: Element::NONE,
         };
         let mut matrix = OrderMatrix {
             elements,
@@ -63,10 +64,10 @@ impl OrderMatrix {
     fn number_variables(&mut self) {
         let elements = self.elements;
         for i in 0..elements {
-            let base = pairs_below(elements, i).wrapping_sub(i);
+            let base = pairs_below(elements, Element::new(i)).wrapping_sub(i);
             put(self.bases.as_mut_slice(), i, base);
             for j in i + 1..elements {
-                let variable = variable_of_pair(elements, i, j);
+                let variable = variable_of_pair(elements, Element::new(i), Element::new(j));
                 put(self.pairs.as_mut_slice(), variable, (i << 16) | j);
             }
         }
@@ -86,23 +87,27 @@ impl OrderMatrix {
     /// Returns the literal that says that the one stands before the other. They must be two different elements: of one with itself the number would be 0 or
     /// that of another pair.
     #[inline(always)]
-    pub fn literal(&self, a: u32, b: u32) -> u32 {
+    pub fn literal(&self, a: Element, b: Element) -> u32 {
         let bases = self.bases.as_slice();
         if a < b {
-            at(bases, a, 0).wrapping_add(b).wrapping_mul(2)
+            let base = at(bases, a.number(), 0);
+            base.wrapping_add(b.number()).wrapping_mul(2)
         } else {
-            at(bases, b, 0).wrapping_add(a).wrapping_mul(2) | 1
+            let base = at(bases, b.number(), 0);
+            base.wrapping_add(a.number()).wrapping_mul(2) | 1
         }
     }
 
     /// Returns the two elements of the literal, the one that it puts first before the other.
     #[inline(always)]
-    pub fn ends(&self, literal: u32) -> (u32, u32) {
+    pub fn ends(&self, literal: u32) -> (Element, Element) {
         let pair = at(self.pairs.as_slice(), literal >> 1, 0);
+        let lower = Element::new(pair >> 16);
+        let higher = Element::new(pair & 0xffff);
         if literal & 1 == 0 {
-            (pair >> 16, pair & 0xffff)
+            (lower, higher)
         } else {
-            (pair & 0xffff, pair >> 16)
+            (higher, lower)
         }
     }
 
@@ -120,7 +125,7 @@ impl OrderMatrix {
 
     /// Records that a stands before b over the element.
     #[inline(always)]
-    fn imply(&mut self, a: u32, b: u32, over: u32) {
+    fn imply(&mut self, a: Element, b: Element, over: Element) {
         let literal = self.literal(a, b);
         put(
             self.implied.as_mut_slice(),
@@ -132,7 +137,7 @@ impl OrderMatrix {
 
     /// Puts a before all elements that stand after b and not yet after a, over b. The literal that a stands before b must be known or recorded by now.
     #[inline(always)]
-    fn inherit_behind(&mut self, a: u32, b: u32) {
+    fn inherit_behind(&mut self, a: Element, b: Element) {
         for w in 0..self.successors.words() {
             let mut added = self.successors.join_word(a, b, w);
             for _ in 0..64 {
@@ -149,7 +154,7 @@ impl OrderMatrix {
     /// literals are in `implied`, without that of the pair itself, each after those from which it follows, since hints of a proof must name what is
     /// known already.
     /// Precondition (not checked): b is not before a.
-    pub fn add(&mut self, a: u32, b: u32) {
+    pub fn add(&mut self, a: Element, b: Element) {
         self.count = 0;
         self.inherit_behind(a, b);
         self.successors.insert(a, b);
@@ -176,7 +181,7 @@ impl OrderMatrix {
     /// Removes the pair (a, b) alone. Callers undo all later pairs too, in reverse order, as the trail does: each implied pair is a literal of
     /// its own there, so nothing has to be closed anew.
     #[inline(always)]
-    pub fn remove(&mut self, a: u32, b: u32) {
+    pub fn remove(&mut self, a: Element, b: Element) {
         self.successors.take_out(a, b);
         self.before.take_out(b, a);
     }

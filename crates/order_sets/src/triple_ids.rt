@@ -1,5 +1,6 @@
 //! The numbers of the clauses that say that an order is transitive.
 
+use crate::element::Element;
 use std::alloc::{AllocError, Global};
 use total_tables::{at, put};
 
@@ -40,17 +41,17 @@ impl TripleIds {
     }
 
     /// Returns the number of the clause of i below j below k that has two negative literals, or with 1 instead of 0 that of the one which has one.
-    fn of_triple(&self, i: u32, j: u32, k: u32, one_negative: u32) -> u32 {
-        let triple = at(self.smallest.as_slice(), i, 0)
-            .wrapping_add(at(self.middle.as_slice(), j, 0))
-            .wrapping_add(k.wrapping_sub(j).wrapping_sub(1));
+    fn of_triple(&self, i: Element, j: Element, k: Element, one_negative: u32) -> u32 {
+        let triple = at(self.smallest.as_slice(), i.number(), 0)
+            .wrapping_add(at(self.middle.as_slice(), j.number(), 0))
+            .wrapping_add(k.number().wrapping_sub(j.number()).wrapping_sub(1));
         self.first
             .wrapping_add(triple.wrapping_mul(2))
             .wrapping_add(one_negative)
     }
 
     /// Returns the number of the clause that forbids the cycle in which a stands before b, b before c and c before a.
-    pub fn of_cycle(&self, a: u32, b: u32, c: u32) -> u32 {
+    pub fn of_cycle(&self, a: Element, b: Element, c: Element) -> u32 {
         // The cycle is turned so that its smallest element comes first. Then its direction picks one of two clauses.
         let (i, p, q) = if b < a && b < c {
             (b, c, a)

@@ -37,6 +37,7 @@ mod wanted;
 mod whole;
 
 pub use clause_database::{EncodingHints, LastWriter, ReadsFromTable, ReadsFromVariable};
+pub use order_sets::Element;
 pub use prepared_formula::PreparedFormula;
 pub use proof_log::{Answer, CubeSolver};
 pub use search::Search;

@@ -2,7 +2,7 @@
 
 use assignment_trail::{FALSE, OrderedTrail};
 use clause_database::ReadsFromTable;
-use order_sets::{ElementSets, next_element};
+use order_sets::{Element, ElementSets, next_element};
 use proof_log::codes::{LiteralCode, Variable};
 use std::alloc::{AllocError, Global};
 use total_tables::{at, put};
@@ -24,8 +24,8 @@ const FOLLOWED: u32 = 1000;
 pub struct ScheduleHeuristic {
     /// For each element the number of elements that stand after it from the start.
     rests: Vec<u32>,
-    /// For each location, named by an element, the element that has written it last, plus one, or 0.
-    last: Vec<u32>,
+    /// For each location, named by an element, the element that has written it last, or none.
+    last: Vec<Element>,
     /// The elements so far, as a set of element 0, and the ready ones, as one of element 1.
     sets: ElementSets,
     /// The number of restarts, which `chance` mixes in.
@@ -42,8 +42,9 @@ fn states(trail: &OrderedTrail<'_>) -> u32 {
     let mut states: u32 = 1;
     // One more than the elements of the process at hand. For element 0 the look before the first element finds nothing.
     let mut prefixes: u32 = 1;
-    for element in 0..trail.order().elements() {
-        if behind.has(element.wrapping_sub(1), element) {
+    for number in 0..trail.order().elements() {
+        let element = Element::new(number);
+        if behind.has(element.previous(), element) {
             prefixes = prefixes.wrapping_add(1);
         } else {
             states = states.saturating_mul(prefixes);
@@ -58,7 +59,7 @@ fn has_long_processes(trail: &OrderedTrail<'_>) -> bool {
     let elements = trail.order().elements();
     let mut first: u32 = 0;
     for element in 0..elements {
-        if trail.order().predecessors().count(element) == 0 {
+        if trail.order().predecessors().count(Element::new(element)) == 0 {
             first = first.wrapping_add(1);
         }
     }
@@ -72,7 +73,8 @@ fn are_mostly_updates(trail: &OrderedTrail<'_>) -> bool {
     };
     let elements = reads_from.elements();
     let mut updates: u32 = 0;
-    for element in 0..elements {
+    for number in 0..elements {
+        let element = Element::new(number);
         if reads_from.reads(element) && reads_from.writes(element) {
             updates = updates.wrapping_add(1);
         }
@@ -95,10 +97,10 @@ pub fn suits_a_schedule(trail: &OrderedTrail<'_>) -> bool {
 }
 
 /// The owner of the set of elements so far.
-const PLACED: u32 = 0;
+const PLACED: Element = Element::FIRST;
 
 /// The owner of the set of ready elements.
-const READY: u32 = 1;
+const READY: Element = Element::SECOND;
 
 impl ScheduleHeuristic {
     /// Starts with an empty prefix. The order that is implied at level 0 is imported from the trail.
@@ -106,11 +108,11 @@ impl ScheduleHeuristic {
         let elements = trail.order().elements();
         let mut rests = Vec::with_capacity(alloc, elements as usize)?;
         for element in 0..elements {
-            rests.push(trail.order().successors().count(element))?;
+            rests.push(trail.order().successors().count(Element::new(element)))?;
         }
         Ok(ScheduleHeuristic {
             rests,
-            last: vec![in alloc; 0; elements as usize]?,
+            last: vec![in alloc; Element::NONE; elements as usize]?,
             sets: ElementSets::new(alloc, elements)?,
             restarts: 0,
         })
@@ -123,7 +125,7 @@ impl ScheduleHeuristic {
 
     /// Returns whether all predecessors of the event are placed.
     #[inline(always)]
-    fn can_be_next(&self, trail: &OrderedTrail<'_>, element: u32) -> bool {
+    fn can_be_next(&self, trail: &OrderedTrail<'_>, element: Element) -> bool {
         for number in 0..self.sets.words() {
             let before = trail.order().predecessors().word(element, number);
             if before & !self.sets.word(PLACED, number) != 0 {
@@ -140,9 +142,10 @@ impl ScheduleHeuristic {
             self.sets.set_word(READY, number, 0);
         }
         for last in self.last.iter_mut() {
-            *last = 0;
+            *last = Element::NONE;
         }
-        for element in 0..trail.order().elements() {
+        for number in 0..trail.order().elements() {
+            let element = Element::new(number);
             if self.can_be_next(trail, element) {
                 self.sets.insert(READY, element);
             }
@@ -150,12 +153,12 @@ impl ScheduleHeuristic {
     }
 
     /// Appends the event to the prefix. Only what stands after it can become ready.
-    fn place(&mut self, trail: &OrderedTrail<'_>, reads_from: &ReadsFromTable, element: u32) {
+    fn place(&mut self, trail: &OrderedTrail<'_>, reads_from: &ReadsFromTable, element: Element) {
         self.sets.take_out(READY, element);
         self.sets.insert(PLACED, element);
         if reads_from.writes(element) {
             let location = reads_from.location(element);
-            put(self.last.as_mut_slice(), location, element.wrapping_add(1));
+            put(self.last.as_mut_slice(), location.number(), element);
         }
         for number in 0..self.sets.words() {
             let mut freed = trail.order().successors().word(element, number);
@@ -171,21 +174,27 @@ impl ScheduleHeuristic {
     }
 
     /// Returns whether the event reads nothing, or may read the last write of the prefix.
-    fn fits(&self, trail: &OrderedTrail<'_>, reads_from: &ReadsFromTable, element: u32) -> bool {
+    fn fits(
+        &self,
+        trail: &OrderedTrail<'_>,
+        reads_from: &ReadsFromTable,
+        element: Element,
+    ) -> bool {
         if !reads_from.reads(element) {
             return true;
         }
-        let last = at(self.last.as_slice(), reads_from.location(element), 0);
-        let choice = if last == 0 {
+        let location = reads_from.location(element).number();
+        let last = at(self.last.as_slice(), location, Element::NONE);
+        let choice = if last == Element::NONE {
             reads_from.variable_without_writer(element)
         } else {
-            reads_from.variable(element, last.wrapping_sub(1))
+            reads_from.variable(element, last)
         };
         choice != Variable::NONE && trail.value(choice.positive()) != FALSE
     }
 
     /// Returns how many events are ready after this one and may read what it writes. For the count it is placed and taken out again.
-    fn followers(&mut self, trail: &OrderedTrail<'_>, element: u32) -> u32 {
+    fn followers(&mut self, trail: &OrderedTrail<'_>, element: Element) -> u32 {
         let mut followers: u32 = 0;
         self.sets.insert(PLACED, element);
         for number in 0..self.sets.words() {
@@ -207,11 +216,11 @@ impl ScheduleHeuristic {
     /// Returns a number below 4, 0 before the first restart, and another one after each. Most ways to begin lead to a schedule soon, and
     /// some to none for very long: these heavy tails are cut if each restart takes another way (Gomes, Selman and Kautz, "Boosting
     /// combinatorial search through randomization", 1998). It is mixed from both numbers and not drawn, so that a run can be repeated.
-    fn chance(&self, element: u32) -> u32 {
+    fn chance(&self, element: Element) -> u32 {
         if self.restarts == 0 {
             return 0;
         }
-        let mixed = element.wrapping_add(1).wrapping_mul(0x9e37_79b1)
+        let mixed = element.next().number().wrapping_mul(0x9e37_79b1)
             ^ self.restarts.wrapping_mul(0x85eb_ca6b);
         (mixed ^ (mixed >> 15)).wrapping_mul(0x2c1b_3c6d) >> 30
     }
@@ -222,9 +231,9 @@ impl ScheduleHeuristic {
         &mut self,
         trail: &OrderedTrail<'_>,
         reads_from: &ReadsFromTable,
-        element: u32,
+        element: Element,
     ) -> u32 {
-        let rest = at(self.rests.as_slice(), element, 0);
+        let rest = at(self.rests.as_slice(), element.number(), 0);
         let worth = rest.wrapping_add(self.chance(element)).wrapping_add(1);
         if !reads_from.writes(element) {
             return worth.wrapping_add(PLAIN_READ);
@@ -237,7 +246,7 @@ impl ScheduleHeuristic {
     }
 
     /// Returns the first other event that can be next. A decision needs one: it is a literal that puts the event before this rival.
-    fn rival_of(&self, element: u32) -> Option<u32> {
+    fn rival_of(&self, element: Element) -> Option<Element> {
         for number in 0..self.sets.words() {
             let mut ready = self.sets.word(READY, number);
             for _ in 0..64 {
@@ -294,7 +303,7 @@ impl ScheduleHeuristic {
             if self.sets.count(READY) != 1 {
                 return self.best(trail, reads_from);
             }
-            let element = self.sets.first(READY);
+            let element = self.sets.first(READY)?;
             if !self.fits(trail, reads_from, element) {
                 return None;
             }

@@ -17,6 +17,7 @@ use counting_proofs::{
     find_contradiction, has_hall_violator, refute,
 };
 use lrat_check::derivation::{Derivation, Step};
+use order_sets::Element;
 use proof_log::codes::{LiteralCode, Variable};
 use proof_log::{Answer, ClauseId, LoggedAdditions, ProofLog, TURN, refuted_within};
 use std::alloc::AllocError;
@@ -42,7 +43,8 @@ pub(crate) fn has_updates(encoding: EncodingHints<'_>) -> bool {
     let Some(reads_from) = encoding.reads_from() else {
         return false;
     };
-    for element in 0..reads_from.elements() {
+    for number in 0..reads_from.elements() {
+        let element = Element::new(number);
         if reads_from.reads(element) && reads_from.writes(element) {
             return true;
         }

@@ -6,6 +6,7 @@ use counting_proofs::{
     GreedyMatching, KnownOrder, MatchingInstance, Reader, ReadsFromEdge as Source, SourceSets,
     Update,
 };
+use order_sets::Element;
 use proof_log::codes::Variable;
 use std::alloc::{AllocError, Global};
 use total_tables::{at, size};
@@ -22,16 +23,16 @@ fn is_excluded(trail: &OrderedTrail<'_>, variable: Variable) -> bool {
 fn places_of(alloc: Global, reads_from: &ReadsFromTable) -> Result<Vec<u32>, AllocError> {
     let mut places = Vec::with_capacity(alloc, reads_from.elements() as usize)?;
     for element in 0..reads_from.elements() {
-        places.push(reads_from.place_of_writer(element))?;
+        places.push(reads_from.place_of_writer(Element::new(element)))?;
     }
     Ok(places)
 }
 
 /// Returns the number of the initial value of the reader's location, which is above those of all events.
-fn first_value(reads_from: &ReadsFromTable, reader: u32) -> u32 {
+fn first_value(reads_from: &ReadsFromTable, reader: Element) -> u32 {
     reads_from
         .elements()
-        .wrapping_add(reads_from.location(reader))
+        .wrapping_add(reads_from.location(reader).number())
 }
 
 /// What the sources of readers are looked up in: what is true, the reads-from variables, and the places of the events among the writers of their
@@ -44,12 +45,17 @@ struct ReadSources<'s, 'a> {
 }
 
 impl<'s, 'a> ReadSources<'s, 'a> {
+    /// Returns the place of the event among the writers of its location.
+    fn place_of(self, element: Element) -> u32 {
+        at(self.places, element.number(), 0)
+    }
+
     /// Returns the choice as an edge from its reader to a source, with the number of the first of its clauses in the formula, by which a derivation
     /// cites them. An edge that is excluded is made too, and flagged: the clause of its reader has its variable, and a derivation that cites that
     /// clause has to cite why the variable is false.
     fn source_of(self, choice: ReadsFromVariable) -> Source {
         let (source, place) = match choice.writer {
-            Some(writer) => (writer, Some(at(self.places, writer, 0))),
+            Some(writer) => (writer.number(), Some(self.place_of(writer))),
             None => (first_value(self.reads_from, choice.reader), None),
         };
         Source {
@@ -64,8 +70,8 @@ impl<'s, 'a> ReadSources<'s, 'a> {
     /// Returns the last writer as a source of the final value.
     fn source_of_last(self, last: LastWriter) -> Source {
         Source {
-            source: last.writer,
-            place: Some(at(self.places, last.writer, 0)),
+            source: last.writer.number(),
+            place: Some(self.place_of(last.writer)),
             variable: last.variable,
             first: last.first,
             is_excluded: is_excluded(self.trail, Variable::new(last.variable)),
@@ -75,7 +81,7 @@ impl<'s, 'a> ReadSources<'s, 'a> {
     /// Adds the read-modify-writes.
     fn tell_updates(self, reads: &mut MatchingInstance) -> Result<(), AllocError> {
         // No element: choices of one reader stand one after the other, and the first one adds it.
-        let mut reader = self.reads_from.elements();
+        let mut reader = Element::NONE;
         for choice in self.reads_from.choices() {
             let Some(choice) = choice else {
                 continue;
@@ -87,7 +93,7 @@ impl<'s, 'a> ReadSources<'s, 'a> {
                 reader = choice.reader;
                 let update = Update {
                     operation: reader,
-                    place: at(self.places, reader, 0),
+                    place: self.place_of(reader),
                 };
                 reads.add_reader(Reader {
                     update: Some(update),
@@ -139,7 +145,7 @@ pub fn matching_instance(
 fn add_update(
     trail: &OrderedTrail<'_>,
     reads_from: &ReadsFromTable,
-    element: u32,
+    element: Element,
     sets: &mut SourceSets,
 ) -> Result<bool, AllocError> {
     sets.add_update(element, &trail.candidates.writers)?;
@@ -165,7 +171,7 @@ fn add_finals(
             sets.add_reader(None)?;
         }
         if !is_excluded(trail, Variable::new(last.variable)) {
-            sets.add_source(last.writer);
+            sets.add_source(last.writer.number());
         }
     }
     Ok(())
@@ -181,7 +187,8 @@ fn sources_below(
     let elements = reads_from.elements();
     let readers = elements.wrapping_add(size(reads_from.last_writers()));
     let mut sets = SourceSets::new(alloc, readers, sources)?;
-    for element in 0..elements {
+    for number in 0..elements {
+        let element = Element::new(number);
         if reads_from.reads(element)
             && reads_from.writes(element)
             && !add_update(trail, reads_from, element, &mut sets)?
@@ -226,7 +233,8 @@ pub fn has_enough_sources(
     known: KnownOrder<'_>,
 ) -> Result<bool, AllocError> {
     let mut glance = GreedyMatching::new(alloc, known, &trail.candidates.writers)?;
-    for element in 0..reads_from.elements() {
+    for number in 0..reads_from.elements() {
+        let element = Element::new(number);
         if reads_from.reads(element) && reads_from.writes(element) {
             let variable = reads_from.variable_without_writer(element);
             let may_have_first = variable != Variable::NONE && !is_excluded(trail, variable);

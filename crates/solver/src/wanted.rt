@@ -1,7 +1,7 @@
 //! Decision variables.
 
 use clause_database::{EncodingHints, FormulaLoader, ReadsFromTable, SmallClause, Store};
-use order_sets::next_element;
+use order_sets::{Element, next_element};
 use proof_log::codes::{NEVER, Variable};
 use std::alloc::{AllocError, Global};
 use total_tables::{at, put, size};
@@ -42,7 +42,7 @@ fn want_pairs(
     marks: &mut [u8],
     encoding: EncodingHints<'_>,
     reads_from: &ReadsFromTable,
-    element: u32,
+    element: Element,
 ) {
     for number in 0..reads_from.writers().words() {
         let mut writers = reads_from.writers().word(element, number);
@@ -67,15 +67,15 @@ fn want_reads(
     for choice in reads_from.choices() {
         if let Some(choice) = choice {
             want(marks, Variable::new(choice.variable));
-            put(in_choices.as_mut_slice(), choice.reader, 1);
+            put(in_choices.as_mut_slice(), choice.reader.number(), 1);
             if let Some(writer) = choice.writer {
-                put(in_choices.as_mut_slice(), writer, 1);
+                put(in_choices.as_mut_slice(), writer.number(), 1);
             }
         }
     }
     for element in 0..elements {
         if at(in_choices.as_slice(), element, 0) != 0 {
-            want_pairs(marks, encoding, reads_from, element);
+            want_pairs(marks, encoding, reads_from, Element::new(element));
         }
     }
     Ok(())

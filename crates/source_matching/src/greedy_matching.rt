@@ -3,7 +3,7 @@
 use crate::known_order::KnownOrder;
 use crate::last_writers::{location_word, may_be_last};
 use crate::source_cycle::{is_member, set_member};
-use order_sets::{ElementSets, next_element};
+use order_sets::{Element, ElementSets, next_element};
 use std::alloc::{AllocError, Global};
 use total_tables::{at, put, size};
 
@@ -24,16 +24,16 @@ pub struct GreedyMatching<'a> {
     /// The writers that may be the last one of their location, and all other elements.
     ends: Vec<u64>,
     others: Vec<u64>,
-    /// For each element the update that is matched with it, plus one, or 0.
-    takers: Vec<u32>,
+    /// For each element the update that is matched with it, or none.
+    takers: Vec<Element>,
     /// The writers of the locations that were visited, and one of each.
     seen: Vec<u64>,
-    heads: Vec<u32>,
+    heads: Vec<Element>,
 }
 
 /// Returns whether one of the sources of the update is not in the set.
 #[inline(always)]
-fn has_one_outside(sources: &ElementSets, update: u32, set: &[u64]) -> bool {
+fn has_one_outside(sources: &ElementSets, update: Element, set: &[u64]) -> bool {
     for number in 0..sources.words() {
         if sources.word(update, number) & !at(set, number, 0) != 0 {
             return true;
@@ -44,13 +44,18 @@ fn has_one_outside(sources: &ElementSets, update: u32, set: &[u64]) -> bool {
 
 /// Removes the first source of the update from the set, if there is one in it.
 #[inline(always)]
-fn takes_one_of(sources: &ElementSets, update: u32, set: &mut [u64], takers: &mut [u32]) -> bool {
+fn takes_one_of(
+    sources: &ElementSets,
+    update: Element,
+    set: &mut [u64],
+    takers: &mut [Element],
+) -> bool {
     for number in 0..sources.words() {
         let left = at(set, number, 0);
         let mut word = sources.word(update, number) & left;
         if let Some(source) = next_element(&mut word, number) {
-            put(set, number, left & !(1 << (source & 63)));
-            put(takers, source, update.wrapping_add(1));
+            put(set, number, left & !source.bit());
+            put(takers, source.number(), update);
             return true;
         }
     }
@@ -80,7 +85,7 @@ impl<'a> GreedyMatching<'a> {
 
     /// Adds an update, which may read the initial value or not.
     #[inline(always)]
-    pub fn add_update(&mut self, update: u32, may_have_first: bool) {
+    pub fn add_update(&mut self, update: Element, may_have_first: bool) {
         set_member(self.updates.as_mut_slice(), update, true);
         if may_have_first {
             set_member(self.with_first.as_mut_slice(), update, true);
@@ -92,7 +97,7 @@ impl<'a> GreedyMatching<'a> {
     }
 
     /// Starts a location, that of this writer, which may be any of its writers. Callers add its ends next, by `add_end`.
-    pub fn add_location(&mut self, writer: u32) -> Result<(), AllocError> {
+    pub fn add_location(&mut self, writer: Element) -> Result<(), AllocError> {
         for number in 0..self.known.writers.words() {
             let word = at(self.seen.as_slice(), number, 0);
             let word = word | location_word(self.known, writer, number);
@@ -104,13 +109,13 @@ impl<'a> GreedyMatching<'a> {
 
     /// Adds a writer that may be the last one of its location.
     #[inline(always)]
-    pub fn add_end(&mut self, writer: u32) {
+    pub fn add_end(&mut self, writer: Element) {
         set_member(self.ends.as_mut_slice(), writer, true);
         set_member(self.others.as_mut_slice(), writer, false);
     }
 
     /// Adds the writers of this one's location that may be the last one.
-    fn add_ends_of(&mut self, writer: u32) {
+    fn add_ends_of(&mut self, writer: Element) {
         for number in 0..self.known.writers.words() {
             let mut word = location_word(self.known, writer, number);
             for _ in 0..64 {
@@ -176,7 +181,7 @@ impl<'a> GreedyMatching<'a> {
     /// Matches the update with the initial value, if it may read that and none of its location does. Then no other update of the location may. It has
     /// no entry in `takers`, so this match is never undone.
     #[inline(always)]
-    fn takes_first(&mut self, update: u32) -> bool {
+    fn takes_first(&mut self, update: Element) -> bool {
         let is_there = is_member(self.with_first.as_slice(), update);
         if is_there {
             for number in 0..self.known.writers.words() {
@@ -191,7 +196,7 @@ impl<'a> GreedyMatching<'a> {
     /// Matches the update with a free source: one that cannot be the last writer, if there is one, since each location needs a last writer
     /// too.
     #[inline(always)]
-    fn takes_one(&mut self, update: u32) -> bool {
+    fn takes_one(&mut self, update: Element) -> bool {
         let takers = self.takers.as_mut_slice();
         takes_one_of(self.sources, update, self.others.as_mut_slice(), takers)
             || self.takes_first(update)
@@ -205,14 +210,14 @@ impl<'a> GreedyMatching<'a> {
 
     /// Frees one of these sources along an alternating path, if the update that is matched with it can be matched with another one. A source that
     /// is freed stays out of the sets of free ones, so the caller takes it.
-    fn given_back(&mut self, sources: u64, number: u32) -> Option<u32> {
+    fn given_back(&mut self, sources: u64, number: u32) -> Option<Element> {
         let mut word = sources;
         for _ in 0..64 {
             let Some(source) = next_element(&mut word, number) else {
                 break;
             };
-            let taker = at(self.takers.as_slice(), source, 0);
-            if taker != 0 && self.takes_one(taker.wrapping_sub(1)) {
+            let taker = at(self.takers.as_slice(), source.number(), Element::NONE);
+            if taker != Element::NONE && self.takes_one(taker) {
                 return Some(source);
             }
         }
@@ -220,11 +225,11 @@ impl<'a> GreedyMatching<'a> {
     }
 
     /// Matches the update with a source that is freed along an alternating path, if there is one.
-    fn takes_another(&mut self, update: u32) -> bool {
+    fn takes_another(&mut self, update: Element) -> bool {
         for number in 0..self.known.writers.words() {
             let word = self.sources.word(update, number);
             if let Some(source) = self.given_back(word, number) {
-                put(self.takers.as_mut_slice(), source, update.wrapping_add(1));
+                put(self.takers.as_mut_slice(), source.number(), update);
                 return true;
             }
         }
@@ -242,7 +247,7 @@ impl<'a> GreedyMatching<'a> {
                 }
                 let place = 63_u32.wrapping_sub(word.leading_zeros());
                 word &= !(1 << (place & 63));
-                let update = number.wrapping_mul(64).wrapping_add(place);
+                let update = Element::new(number.wrapping_mul(64).wrapping_add(place));
                 if !self.takes_one(update) && !self.takes_another(update) {
                     return false;
                 }
@@ -252,7 +257,7 @@ impl<'a> GreedyMatching<'a> {
     }
 
     /// Returns whether in the location of this writer one that may be the last is free, or is freed along an alternating path.
-    fn has_end(&mut self, writer: u32, may_end: &[u64]) -> bool {
+    fn has_end(&mut self, writer: Element, may_end: &[u64]) -> bool {
         for number in 0..self.known.writers.words() {
             let word = at(self.ends.as_slice(), number, 0);
             if word & location_word(self.known, writer, number) != 0 {
@@ -271,7 +276,7 @@ impl<'a> GreedyMatching<'a> {
     /// Returns whether in each location a writer is free that may be the last one.
     fn have_ends(&mut self, may_end: &[u64]) -> bool {
         for number in 0..size(self.heads.as_slice()) {
-            let head = at(self.heads.as_slice(), number, 0);
+            let head = at(self.heads.as_slice(), number, Element::NONE);
             if !self.has_end(head, may_end) {
                 return false;
             }
@@ -285,7 +290,8 @@ impl<'a> GreedyMatching<'a> {
         self.add_locations()?;
         let mut may_end = Vec::new(alloc);
         may_end.extend_from_slice(self.ends.as_slice())?;
-        self.takers = vec![in alloc; 0; self.sources.words().wrapping_mul(64) as usize]?;
+        let bits = self.sources.words().wrapping_mul(64) as usize;
+        self.takers = vec![in alloc; Element::NONE; bits]?;
         Ok(self.has_no_cycle(alloc)? && self.have_sources() && self.have_ends(may_end.as_slice()))
     }
 }

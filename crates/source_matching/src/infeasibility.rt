@@ -29,7 +29,9 @@ fn find_ending(
         let candidates = candidates_of(alloc, known, *writer)?;
         let sources = matching.possible().sources();
         // One that no reader may have as its source is free to be the last writer. The sets have no bit for it, so the matching would not see it.
-        let may_be_read = candidates.iter().all(|candidate| *candidate < sources);
+        let may_be_read = candidates
+            .iter()
+            .all(|candidate| candidate.number() < sources);
         if may_be_read && matching.has_none_for(candidates.as_slice())? {
             let mut readers = Vec::new(alloc);
             readers.extend_from_slice(matching.reached())?;

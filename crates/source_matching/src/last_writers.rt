@@ -3,7 +3,7 @@
 use crate::known_order::KnownOrder;
 use crate::matching_instance::ReadsFromEdge;
 use crate::source_sets::SourceSets;
-use order_sets::next_element;
+use order_sets::{Element, next_element};
 use std::alloc::{AllocError, Global};
 use total_tables::{at, put};
 
@@ -12,14 +12,14 @@ use total_tables::{at, put};
 /// only the last writer closes.
 #[derive(Drop)]
 pub struct LastWriters {
-    writers: Vec<u32>,
-    candidates: Vec<u32>,
+    writers: Vec<Element>,
+    candidates: Vec<Element>,
 }
 
 /// Returns whether no writer of its location surely comes after this one.
-pub fn may_be_last(known: KnownOrder<'_>, writer: u32) -> bool {
+pub fn may_be_last(known: KnownOrder<'_>, writer: Element) -> bool {
     // The next one of its process has mostly a number in the same word.
-    let likeliest = writer >> 6;
+    let likeliest = writer.word();
     if known.writers.word(writer, likeliest) & known.successors.word(writer, likeliest) != 0 {
         return false;
     }
@@ -30,10 +30,10 @@ pub fn may_be_last(known: KnownOrder<'_>, writer: u32) -> bool {
 
 /// Returns a word of the set of writers of this one's location, itself among them.
 #[inline(always)]
-pub fn location_word(known: KnownOrder<'_>, writer: u32, number: u32) -> u64 {
+pub fn location_word(known: KnownOrder<'_>, writer: Element, number: u32) -> u64 {
     let others = known.writers.word(writer, number);
-    if writer >> 6 == number {
-        others | 1 << (writer & 63)
+    if writer.word() == number {
+        others | writer.bit()
     } else {
         others
     }
@@ -43,8 +43,8 @@ pub fn location_word(known: KnownOrder<'_>, writer: u32, number: u32) -> u64 {
 fn writers_of_location(
     alloc: Global,
     known: KnownOrder<'_>,
-    writer: u32,
-) -> Result<Vec<u32>, AllocError> {
+    writer: Element,
+) -> Result<Vec<Element>, AllocError> {
     let mut writers = Vec::new(alloc);
     for number in 0..known.writers.words() {
         let mut word = location_word(known, writer, number);
@@ -62,8 +62,8 @@ fn writers_of_location(
 pub fn candidates_of(
     alloc: Global,
     known: KnownOrder<'_>,
-    writer: u32,
-) -> Result<Vec<u32>, AllocError> {
+    writer: Element,
+) -> Result<Vec<Element>, AllocError> {
     let writers = writers_of_location(alloc, known, writer)?;
     let mut candidates = Vec::new(alloc);
     for candidate in &writers {
@@ -79,8 +79,8 @@ impl LastWriters {
     pub fn of(
         alloc: Global,
         known: KnownOrder<'_>,
-        writer: u32,
-        candidates: Vec<u32>,
+        writer: Element,
+        candidates: Vec<Element>,
     ) -> Result<LastWriters, AllocError> {
         let writers = writers_of_location(alloc, known, writer)?;
         Ok(LastWriters {
@@ -98,18 +98,18 @@ impl LastWriters {
         candidates.saturating_mul(sum)
     }
 
-    pub fn writers(&self) -> &[u32] {
+    pub fn writers(&self) -> &[Element] {
         self.writers.as_slice()
     }
 
     /// Returns those that may be the last one.
-    pub fn candidates(&self) -> &[u32] {
+    pub fn candidates(&self) -> &[Element] {
         self.candidates.as_slice()
     }
 
     /// Returns one of the candidates that surely comes after this writer, which is no candidate. It is the same one at each call: the literal
     /// that says so becomes a unit clause of the proof, and later steps name just that one.
-    pub fn candidate_behind(&self, known: KnownOrder<'_>, writer: u32) -> Option<u32> {
+    pub fn candidate_behind(&self, known: KnownOrder<'_>, writer: Element) -> Option<Element> {
         let mut found = None;
         for candidate in &self.candidates {
             if known.successors.has(writer, *candidate) {
@@ -121,7 +121,7 @@ impl LastWriters {
 
     /// Returns the choice of the writer at this place among the candidates, counted from 0, with this variable, if its clauses begin with this one.
     pub fn choice(&self, candidate: u32, variable: u32, first: u32) -> ReadsFromEdge {
-        let source = at(self.candidates.as_slice(), candidate, u32::MAX);
+        let source = at(self.candidates.as_slice(), candidate, Element::NONE);
         let mut place: u32 = 0;
         for writer in &self.writers {
             if *writer < source {
@@ -129,7 +129,7 @@ impl LastWriters {
             }
         }
         ReadsFromEdge {
-            source,
+            source: source.number(),
             place: Some(place),
             variable,
             first,
@@ -140,11 +140,11 @@ impl LastWriters {
 
 /// Returns whether a free source may be the last writer of this one's location. (Of those in a word only the last one is examined, which is the
 /// likeliest. If one is missed, `find_ending` searches in full.)
-fn has_free_end(known: KnownOrder<'_>, free: &[u64], writer: u32) -> bool {
+fn has_free_end(known: KnownOrder<'_>, free: &[u64], writer: Element) -> bool {
     for number in 0..known.writers.words() {
         let word = known.writers.word(writer, number) & at(free, number, 0);
         let last = number.wrapping_mul(64).wrapping_add(63);
-        let last = last.wrapping_sub(word.leading_zeros());
+        let last = Element::new(last.wrapping_sub(word.leading_zeros()));
         if word != 0 && may_be_last(known, last) {
             return true;
         }
@@ -153,7 +153,7 @@ fn has_free_end(known: KnownOrder<'_>, free: &[u64], writer: u32) -> bool {
 }
 
 /// Adds the writer and all others of its location to the set.
-fn add_location(known: KnownOrder<'_>, done: &mut [u64], writer: u32) {
+fn add_location(known: KnownOrder<'_>, done: &mut [u64], writer: Element) {
     for number in 0..known.writers.words() {
         let word = at(done, number, 0) | location_word(known, writer, number);
         put(done, number, word);
@@ -167,19 +167,19 @@ pub fn writers_without_end(
     possible: &SourceSets,
     free: &[u64],
     known: KnownOrder<'_>,
-) -> Result<Vec<u32>, AllocError> {
+) -> Result<Vec<Element>, AllocError> {
     let mut done = vec![in alloc; 0; known.writers.words() as usize]?;
     for reader in 0..possible.readers() {
         if possible.update(reader).is_none()
             && let Some(writer) = possible.first(reader)
         {
-            add_location(known, done.as_mut_slice(), writer);
+            add_location(known, done.as_mut_slice(), Element::new(writer));
         }
     }
     let mut writers = Vec::new(alloc);
     for reader in 0..possible.readers() {
         if let Some(update) = possible.update(reader)
-            && at(done.as_slice(), update >> 6, u64::MAX) >> (update & 63) & 1 == 0
+            && at(done.as_slice(), update.word(), u64::MAX) & update.bit() == 0
         {
             add_location(known, done.as_mut_slice(), update);
             if !has_free_end(known, free, update) {

@@ -2,7 +2,7 @@
 //! at a time: the instances have at most a few hundred readers, so phases of shortest paths would not pay.
 
 use crate::source_sets::SourceSets;
-use order_sets::next_element;
+use order_sets::{Element, next_bit};
 use std::alloc::{AllocError, Global};
 use total_tables::{at, put, size};
 
@@ -98,7 +98,7 @@ impl Matching {
 
     /// Returns whether one more reader with these sources would remain unmatched. The matching stays as it is, so this may be asked for one set of
     /// sources after the other.
-    pub fn has_none_for(&mut self, sources: &[u32]) -> Result<bool, AllocError> {
+    pub fn has_none_for(&mut self, sources: &[Element]) -> Result<bool, AllocError> {
         self.possible.set_last(sources);
         let found = self.walk(self.readers)?;
         Ok(found.is_none())
@@ -130,7 +130,7 @@ impl Matching {
         for number in 0..self.possible.words() {
             let free = at(self.free.as_slice(), number, 0);
             let mut word = self.possible.word(reader, number) & free;
-            if let Some(source) = next_element(&mut word, number) {
+            if let Some(source) = next_bit(&mut word, number) {
                 let bit = 1 << (source & 63);
                 put(self.free.as_mut_slice(), number, free & !bit);
                 self.give(reader, source);
@@ -148,12 +148,12 @@ impl Matching {
             let mut word = self.possible.word(reader, number) & unseen;
             put(self.unseen.as_mut_slice(), number, unseen & !word);
             let mut free = word & at(self.free.as_slice(), number, 0);
-            if let Some(source) = next_element(&mut free, number) {
+            if let Some(source) = next_bit(&mut free, number) {
                 put(self.came_from.as_mut_slice(), source, reader);
                 return Ok(Some(source));
             }
             for _ in 0..64 {
-                let Some(source) = next_element(&mut word, number) else {
+                let Some(source) = next_bit(&mut word, number) else {
                     break;
                 };
                 put(self.came_from.as_mut_slice(), source, reader);

@@ -1,13 +1,14 @@
 //! The matching instance of a formula: readers, sources, and the reads-from edges between them.
 
+use order_sets::Element;
 use std::alloc::{AllocError, Global};
 use total_tables::{at, size};
 
 /// A read-modify-write.
 #[derive(Clone, Copy)]
 pub struct Update {
-    /// Its number among all operations, counted from 0.
-    pub operation: u32,
+    /// Itself, among all operations.
+    pub operation: Element,
     /// Its place among the writers of its location, counted from 0 by rising numbers of operations.
     pub place: u32,
 }

@@ -1,7 +1,7 @@
 //! Cycles of reads-from: updates of which none can come first.
 
 use crate::source_sets::SourceSets;
-use order_sets::next_element;
+use order_sets::{Element, next_bit};
 use std::alloc::{AllocError, Global};
 use total_tables::{at, put, size};
 
@@ -30,7 +30,11 @@ fn readers_by_source(alloc: Global, possible: &SourceSets) -> Result<Vec<u32>, A
     let mut readers = vec![in alloc; 0; possible.sources() as usize]?;
     for reader in 0..possible.readers() {
         if let Some(update) = possible.update(reader) {
-            put(readers.as_mut_slice(), update, reader.wrapping_add(1));
+            put(
+                readers.as_mut_slice(),
+                update.number(),
+                reader.wrapping_add(1),
+            );
         }
     }
     Ok(readers)
@@ -48,21 +52,21 @@ fn has_all_within(possible: &SourceSets, reader: u32, within: &[u64]) -> bool {
 }
 
 #[inline(always)]
-pub fn is_member(set: &[u64], source: u32) -> bool {
-    at(set, source >> 6, 0) >> (source & 63) & 1 == 1
+pub fn is_member(set: &[u64], element: Element) -> bool {
+    at(set, element.word(), 0) & element.bit() != 0
 }
 
-/// Puts a source into a set, or removes it.
+/// Puts an element into a set, or removes it.
 #[inline(always)]
-pub fn set_member(set: &mut [u64], source: u32, is_member: bool) {
-    let bit = 1 << (source & 63);
-    let word = at(set, source >> 6, 0);
+pub fn set_member(set: &mut [u64], element: Element, is_member: bool) {
+    let bit = element.bit();
+    let word = at(set, element.word(), 0);
     let word = if is_member { word | bit } else { word & !bit };
-    put(set, source >> 6, word);
+    put(set, element.word(), word);
 }
 
 /// Removes, one after the other, each update that may have a source outside of those that are left. Returns those that are left at the end,
-/// as a set of the numbers of their operations, and how many they are. Each round looks at all of them, without a worklist: they are at most a few hundred.
+/// as a set of their operations, and how many they are. Each round looks at all of them, without a worklist: they are at most a few hundred.
 fn without_outsiders(alloc: Global, possible: &SourceSets) -> Result<(Vec<u64>, u32), AllocError> {
     let mut left = vec![in alloc; 0; possible.words() as usize]?;
     let mut count: u32 = 0;
@@ -109,7 +113,7 @@ fn reached_from(
         for number in 0..possible.words() {
             let mut word = possible.word(next, number);
             for _ in 0..64 {
-                let Some(source) = next_element(&mut word, number) else {
+                let Some(source) = next_bit(&mut word, number) else {
                     break;
                 };
                 // A source that is no update would give the largest number, which counts as reached.

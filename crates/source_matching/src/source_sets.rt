@@ -1,7 +1,7 @@
 //! Sets of sources as bits: a matching visits a word of 64 sources at once.
 
 use crate::matching_instance::MatchingInstance;
-use order_sets::ElementSets;
+use order_sets::{Element, ElementSets};
 use std::alloc::{AllocError, Global};
 use total_tables::{at, put, size};
 
@@ -9,8 +9,8 @@ use total_tables::{at, put, size};
 #[derive(Drop)]
 pub struct SourceSets {
     words: u32,
-    /// For each reader the number of its operation, plus one, if it is an update, or 0.
-    updates: Vec<u32>,
+    /// For each reader its operation, if it is an update, or none.
+    updates: Vec<Element>,
     /// The sets one after the other, each of as many words; the last one is that of the one more reader.
     bits: Vec<u64>,
 }
@@ -43,21 +43,17 @@ impl SourceSets {
         Ok(sets)
     }
 
-    /// Adds a reader without sources: the update with this number among all operations, or the final value of a location.
-    pub fn add_reader(&mut self, update: Option<u32>) -> Result<(), AllocError> {
-        let entry = match update {
-            Some(operation) => operation.wrapping_add(1),
-            None => 0,
-        };
-        self.updates.push(entry)?;
+    /// Adds a reader without sources: the update that is this operation, or the final value of a location.
+    pub fn add_reader(&mut self, update: Option<Element>) -> Result<(), AllocError> {
+        self.updates.push(update.unwrap_or(Element::NONE))?;
         Ok(())
     }
 
-    /// Adds the update with this number among all operations, which may have these sources: the set of its number.
+    /// Adds the update that is this operation, which may have these sources: the set of which it is the owner.
     #[inline(always)]
-    pub fn add_update(&mut self, update: u32, sources: &ElementSets) -> Result<(), AllocError> {
+    pub fn add_update(&mut self, update: Element, sources: &ElementSets) -> Result<(), AllocError> {
         let start = self.readers().wrapping_mul(self.words);
-        self.updates.push(update.wrapping_add(1))?;
+        self.updates.push(update)?;
         for number in 0..self.words.min(sources.words()) {
             let place = start.wrapping_add(number);
             put(
@@ -88,14 +84,14 @@ impl SourceSets {
 
     /// Sets the sources of the one more reader, in place, so that the last writers of each location are tried without a copy. It stands
     /// behind the readers that were added, so none may be added after this. Sources above the bound are left out.
-    pub fn set_last(&mut self, sources: &[u32]) {
+    pub fn set_last(&mut self, sources: &[Element]) {
         let last = self.readers();
         for number in 0..self.words {
             let place = last.wrapping_mul(self.words).wrapping_add(number);
             put(self.bits.as_mut_slice(), place, 0);
         }
         for source in sources {
-            self.insert(last, *source >> 6, 1 << (*source & 63));
+            self.insert(last, source.word(), source.bit());
         }
     }
 
@@ -105,14 +101,14 @@ impl SourceSets {
         size(self.updates.as_slice())
     }
 
-    /// Returns the number of the reader's operation, if it is an update.
+    /// Returns the reader's operation, if it is an update.
     #[inline(always)]
-    pub fn update(&self, reader: u32) -> Option<u32> {
-        let entry = at(self.updates.as_slice(), reader, 0);
-        if entry == 0 {
+    pub fn update(&self, reader: u32) -> Option<Element> {
+        let operation = at(self.updates.as_slice(), reader, Element::NONE);
+        if operation == Element::NONE {
             None
         } else {
-            Some(entry.wrapping_sub(1))
+            Some(operation)
         }
     }
 

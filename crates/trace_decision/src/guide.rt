@@ -4,24 +4,29 @@
 use clause_blocks::trace_clauses::TraceClauses;
 use clause_meaning::clause_runs::ClauseRuns;
 use clause_meaning::run::ClauseRun;
-use solver::{EncodingHints, LastWriter, ReadsFromTable, ReadsFromVariable};
+use solver::{Element, EncodingHints, LastWriter, ReadsFromTable, ReadsFromVariable};
 use std::alloc::{AllocError, Global};
 use var_layout::layout::Layout;
 
-/// The number of an operation, from 0, as the solver takes it. At most 160 operations are kept, so it always fits.
-fn element_of(operation: usize) -> u32 {
-    u32::try_from(operation).unwrap_or(u32::MAX)
+/// A number of operations, or of clauses, as the solver takes it. At most 160 operations are kept, so theirs always fits.
+fn number_of(count: usize) -> u32 {
+    u32::try_from(count).unwrap_or(u32::MAX)
+}
+
+/// Returns the operation of this number, from 0, as the solver takes it.
+fn element_of(operation: usize) -> Element {
+    Element::new(number_of(operation))
 }
 
 /// Returns the id of the clause at this place, as the solver counts clauses: from 1.
 fn id_at(place: usize) -> u32 {
-    element_of(place).saturating_add(1)
+    number_of(place).saturating_add(1)
 }
 
 /// Returns hints that name the clauses of transitivity.
 pub fn guide_to_order<'a>(clauses: &TraceClauses) -> EncodingHints<'a> {
     let operations = clauses.layout().operations();
-    EncodingHints::with_order(element_of(operations), id_at(clauses.transitivity_start()))
+    EncodingHints::with_order(number_of(operations), id_at(clauses.transitivity_start()))
 }
 
 /// Adds the other writers of the location of each operation.
@@ -84,7 +89,7 @@ pub fn reads_from_table(
     clauses: &TraceClauses,
 ) -> Result<ReadsFromTable, AllocError> {
     let layout = clauses.layout();
-    let mut reads_from = ReadsFromTable::new(alloc, element_of(layout.operations()))?;
+    let mut reads_from = ReadsFromTable::new(alloc, number_of(layout.operations()))?;
     add_writers(&mut reads_from, layout);
     let runs = ClauseRuns::of(alloc, clauses)?;
     // 0 is no clause: the run that names the clause stands before those of the writers that need it.

@@ -10,7 +10,7 @@ use clause_blocks::trace_clauses::TraceClauses;
 use clause_meaning::clause_runs::ClauseRuns;
 use clause_meaning::meaning::ClauseMeaning;
 use dimacs::ClauseList;
-use order_sets::TripleIds;
+use order_sets::{Element, TripleIds};
 use solver::{EncodingHints, LastWriter, ReadsFromTable, ReadsFromVariable};
 use std::alloc::Global;
 use std::process::Abort;
@@ -33,6 +33,11 @@ fn names_transitivity(meanings: &ClauseRuns<'_>, count: usize, guide: EncodingHi
     true
 }
 
+/// The operation of this number, as the search takes it.
+fn element_of(operation: usize) -> Element {
+    Element::new(u32::try_from(operation).unwrap_or(0))
+}
+
 /// Returns whether each clause of transitivity has the number that the search computes for the cycle that it forbids.
 fn numbers_cycles(meanings: &ClauseRuns<'_>, count: usize, ids: &TripleIds) -> bool {
     for place in 0..count {
@@ -45,9 +50,9 @@ fn numbers_cycles(meanings: &ClauseRuns<'_>, count: usize, ids: &TripleIds) -> b
             },
         ) = meanings.meaning_at(place)
         {
-            let first = u32::try_from(lowest).unwrap_or(0);
-            let second = u32::try_from(middle).unwrap_or(0);
-            let third = u32::try_from(highest).unwrap_or(0);
+            let first = element_of(lowest);
+            let second = element_of(middle);
+            let third = element_of(highest);
             let number = if is_second {
                 ids.of_cycle(first, third, second)
             } else {
@@ -67,21 +72,18 @@ fn is_right_choice(
     table: &ReadsFromTable,
     choice: ReadsFromVariable,
 ) -> bool {
-    for writer in 0..table.elements() {
+    let reader = choice.reader.number();
+    let source = choice.writer.map(|writer| writer.number());
+    for number in 0..table.elements() {
+        let writer = Element::new(number);
         if !table.writers().has(choice.reader, writer) {
             continue;
         }
         let meaning = said(meanings, table.clause_of(choice, writer).number());
         let is_right = if choice.writer == Some(writer) {
-            is_after(meaning, choice.reader, choice.variable, writer)
+            is_after(meaning, reader, choice.variable, number)
         } else {
-            is_against(
-                meaning,
-                choice.reader,
-                choice.variable,
-                choice.writer,
-                writer,
-            )
+            is_against(meaning, reader, choice.variable, source, number)
         };
         if !is_right {
             return false;
@@ -98,9 +100,10 @@ fn is_right_choice(
 /// Returns whether the table names the clause that says which writers can be the last, and those of this one by rising numbers of the others.
 fn is_right_last(meanings: &ClauseRuns<'_>, table: &ReadsFromTable, last: LastWriter) -> bool {
     let mut number = last.first;
+    let writer = last.writer.number();
     for other in 0..table.elements() {
-        if table.writers().has(last.writer, other) {
-            if !is_before_last(said(meanings, number), last.variable, last.writer, other) {
+        if table.writers().has(last.writer, Element::new(other)) {
+            if !is_before_last(said(meanings, number), last.variable, writer, other) {
                 return false;
             }
             number = number.wrapping_add(1);
@@ -112,7 +115,7 @@ fn is_right_last(meanings: &ClauseRuns<'_>, table: &ReadsFromTable, last: LastWr
 /// Counts the choices, if the clauses of each are right, and the one before those of the first of a reader says that it reads from somewhere.
 fn right_choices(meanings: &ClauseRuns<'_>, table: &ReadsFromTable) -> Option<usize> {
     let mut count = 0usize;
-    let mut reader = table.elements();
+    let mut reader = Element::NONE;
     for choice in table.choices() {
         let Some(choice) = choice else {
             continue;
@@ -121,7 +124,7 @@ fn right_choices(meanings: &ClauseRuns<'_>, table: &ReadsFromTable) -> Option<us
             return None;
         }
         let before = said(meanings, choice.first.wrapping_sub(1));
-        if choice.reader != reader && !is_source(before, choice.reader) {
+        if choice.reader != reader && !is_source(before, choice.reader.number()) {
             return None;
         }
         reader = choice.reader;

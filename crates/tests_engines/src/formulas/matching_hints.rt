@@ -5,6 +5,7 @@ use crate::formulas::said_clauses::{is_after, is_against, is_before_last, said};
 use crate::traces::{ALL_FAMILIES, UPDATES, reduced_of};
 use clause_blocks::trace_clauses::TraceClauses;
 use clause_meaning::clause_runs::ClauseRuns;
+use order_sets::Element;
 use solver::{LastWriter, ReadsFromTable, ReadsFromVariable};
 use source_matching::{MatchingInstance, Reader, ReadsFromEdge, Update};
 use std::alloc::Global;
@@ -12,11 +13,16 @@ use std::process::Abort;
 use trace_decision::guide::reads_from_table;
 
 /// The place of the writer among those of its location, if there is one.
-fn place_of(table: &ReadsFromTable, writer: Option<u32>) -> Option<u32> {
+fn place_of(table: &ReadsFromTable, writer: Option<Element>) -> Option<u32> {
     match writer {
         Some(writer) => Some(table.place_of_writer(writer)),
         None => None,
     }
+}
+
+/// The number of the writer, if there is one.
+fn number_of(writer: Option<Element>) -> Option<u32> {
+    writer.map(|writer| writer.number())
 }
 
 /// Adds the update of the choice, and the choice as its edge.
@@ -36,7 +42,7 @@ fn add_update(
     };
     ample(rt, reads.add_reader(reader));
     let edge = ReadsFromEdge {
-        source: choice.writer.unwrap_or(table.elements()),
+        source: number_of(choice.writer).unwrap_or(table.elements()),
         place: place_of(table, choice.writer),
         variable: choice.variable,
         first: choice.first,
@@ -58,7 +64,7 @@ fn add_final_value(
     };
     ample(rt, reads.add_reader(reader));
     let edge = ReadsFromEdge {
-        source: last.writer,
+        source: last.writer.number(),
         place: place_of(table, Some(last.writer)),
         variable: last.variable,
         first: last.first,
@@ -77,10 +83,10 @@ fn forbids(
     let meaning = said(meanings, number);
     is_against(
         meaning,
-        choice.reader,
+        choice.reader.number(),
         choice.variable,
-        choice.writer,
-        other.reader,
+        number_of(choice.writer),
+        other.reader.number(),
     )
 }
 
@@ -89,13 +95,13 @@ fn puts_after(
     meanings: &ClauseRuns<'_>,
     number: u32,
     choice: ReadsFromVariable,
-    source: u32,
+    source: Element,
 ) -> bool {
     is_after(
         said(meanings, number),
-        choice.reader,
+        choice.reader.number(),
         choice.variable,
-        source,
+        source.number(),
     )
 }
 
@@ -141,7 +147,14 @@ fn assert_last(
     add_update(rt, &mut reads, table, choice);
     let hints = reads.hints_of_pair((0, 1), (0, 1));
     let before = said(meanings, hints[0]);
-    assert!(rt; is_before_last(before, last.variable, last.writer, choice.reader));
+    assert!(rt;
+        is_before_last(
+            before,
+            last.variable,
+            last.writer.number(),
+            choice.reader.number()
+        )
+    );
     assert!(rt; puts_after(meanings, hints[1], choice, last.writer));
     let turned = reads.hints_of_pair((1, 0), (1, 0));
     assert!(rt; turned[0] == hints[0] && turned[1] == hints[1]);

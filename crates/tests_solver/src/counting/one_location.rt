@@ -2,7 +2,7 @@
 
 use counting_proofs::{KnownOrder, MatchingInstance, OrderClauses, Reader, ReadsFromEdge, Update};
 use dimacs::{Clause, Formula, Lit};
-use order_sets::ElementSets;
+use order_sets::{Element, ElementSets};
 use proof_log::ClauseId;
 use std::alloc::{AllocError, Global};
 
@@ -109,10 +109,10 @@ impl Spelling {
         for i in 0..self.writers {
             for j in 0..self.writers {
                 if i != j {
-                    self.other_writers.insert(i, j);
+                    self.other_writers.insert(Element::new(i), Element::new(j));
                 }
                 if i < j && i.checked_div(in_process) == j.checked_div(in_process) {
-                    self.successors.insert(i, j);
+                    self.successors.insert(Element::new(i), Element::new(j));
                     self.add_unit(before(self.writers, i, j))?;
                 }
             }
@@ -219,7 +219,7 @@ impl Spelling {
         }
         let clause = self.add(numbers.as_slice())?;
         let update = place.map(|place| Update {
-            operation: place,
+            operation: Element::new(place),
             place,
         });
         self.reads.add_reader(Reader { update, clause })?;

@@ -4,19 +4,19 @@ use crate::expectations::{ample, expect};
 use crate::solving::answers::{Shown, solved};
 use crate::solving::formulas::{PIGEONHOLE, STORE_BUFFERING, listed};
 use dimacs::Formula;
-use solver::{EncodingHints, ReadsFromTable, ReadsFromVariable};
+use solver::{Element, EncodingHints, ReadsFromTable, ReadsFromVariable};
 use std::alloc::{AllocError, Global};
 use std::process::Abort;
 
 /// Gives what is known of the reads of store buffering: each of the two takes place before the other process writes.
 fn store_buffering_reads(alloc: Global) -> Result<ReadsFromTable, AllocError> {
     let mut reads_from = ReadsFromTable::new(alloc, 4)?;
-    reads_from.add_writer(1, 2);
-    reads_from.add_writer(3, 0);
+    reads_from.add_writer(Element::new(1), Element::new(2));
+    reads_from.add_writer(Element::new(3), Element::new(0));
     for (variable, reader, first) in [(7, 1, 12), (8, 3, 14)] {
         reads_from.add_choice(ReadsFromVariable {
             variable,
-            reader,
+            reader: Element::new(reader),
             writer: None,
             first,
         })?;

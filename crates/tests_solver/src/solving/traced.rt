@@ -2,7 +2,7 @@
 
 use crate::solving::formulas::{add, formula_of};
 use dimacs::{Clause, Formula};
-use solver::{EncodingHints, LastWriter, ReadsFromTable, ReadsFromVariable};
+use solver::{Element, EncodingHints, LastWriter, ReadsFromTable, ReadsFromVariable};
 use std::alloc::{AllocError, Global};
 
 /// What an operation reads and writes, and whether it is the first one of its process.
@@ -104,8 +104,8 @@ impl Made {
     }
 
     /// The element that stands the given number of places further on, counted around.
-    fn further(&self, element: u32, by: u32) -> u32 {
-        element.wrapping_add(by) % self.elements.max(1)
+    fn further(&self, element: Element, by: u32) -> Element {
+        Element::new(element.number().wrapping_add(by) % self.elements.max(1))
     }
 
     /// Gives what is reported of a choice.
@@ -181,8 +181,8 @@ fn add_choice(
     let first = made.next();
     let told = made.told(ReadsFromVariable {
         variable,
-        reader,
-        writer,
+        reader: Element::new(reader),
+        writer: writer.map(|writer| Element::new(writer)),
         first,
     });
     made.reads_from.add_choice(told)?;
@@ -267,7 +267,7 @@ fn add_last_writer(
     let first = made.next();
     let told = made.told_of_last(LastWriter {
         variable,
-        writer,
+        writer: Element::new(writer),
         clause,
         first,
     });
@@ -333,7 +333,8 @@ pub fn formula_of_trace(
     for access in accesses {
         if access.writes.is_some() {
             for other in 0..elements {
-                made.reads_from.add_writer(other, element);
+                made.reads_from
+                    .add_writer(Element::new(other), Element::new(element));
             }
         }
         element = element.wrapping_add(1);
