@@ -6,11 +6,11 @@ use crate::step_log::StepLog;
 use crate::units::UnitTable;
 use order_sets::Element;
 use proof_log::codes::{LiteralCode, NEVER};
-use source_matching::{MatchingInstance, OrderClauses, SourceCycle};
+use source_matching::{MatchingInstance, OrderClauses, ReaderId, SourceCycle};
 use std::alloc::{AllocError, Global};
 
 /// Returns the operation of the reader.
-fn operation_of(reads: &MatchingInstance, reader: u32) -> Element {
+fn operation_of(reads: &MatchingInstance, reader: ReaderId) -> Element {
     match reads.reader(reader).update {
         Some(update) => update.operation,
         None => Element::NONE,
@@ -24,18 +24,18 @@ fn add_clause(
     reads: &MatchingInstance,
     units: &UnitTable,
     elimination: &mut Elimination,
-    reader: u32,
+    reader: ReaderId,
 ) -> Result<(), AllocError> {
     let operation = operation_of(reads, reader);
     let place = elimination.place_of(operation);
     let mut literals = Vec::new(alloc);
     let mut hints = Vec::new(alloc);
-    for number in reads.first_choice(reader)..reads.first_choice(reader.wrapping_add(1)) {
+    for number in reads.first_choice(reader)..reads.first_choice(reader.next()) {
         let choice = reads.choice(number);
         if choice.is_excluded {
             hints.push(units.hint(LiteralCode::new(choice.literal()).negated()))?;
         } else {
-            let source = Element::new(choice.source);
+            let source = choice.source.writer();
             literals.push(elimination.literal(source, operation))?;
             // The first clause of a choice says that the source stands before the reader. With that denied the choice is not made.
             hints.push(i64::from(choice.first))?;

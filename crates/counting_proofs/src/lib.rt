@@ -29,6 +29,6 @@ mod units;
 pub use refutation::{Premises, refute};
 pub use source_matching::{
     GreedyMatching, KnownOrder, MatchingInstance, OrderClauses, Reader, ReadsFromEdge,
-    SourceContradiction, SourceSets, Update, find_contradiction, has_hall_violator,
+    SourceContradiction, SourceId, SourceSets, Update, find_contradiction, has_hall_violator,
 };
 pub use step_log::Free;

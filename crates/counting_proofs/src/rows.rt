@@ -5,7 +5,7 @@ use crate::replay::ShortClause;
 use crate::taken::{Taken, has_source};
 use proof_log::ClauseId;
 use proof_log::codes::{ALWAYS, LiteralCode, NEVER};
-use source_matching::{Grid, HallViolator, MatchingInstance};
+use source_matching::{Grid, HallViolator, MatchingInstance, SourcePlace};
 use std::alloc::{AllocError, Global};
 
 /// The counts of the readers 1 to i: for sources 1 to j and a count k the literal "at least k of them have one of these sources", and
@@ -55,8 +55,13 @@ const NEEDS_FEWER: usize = 2;
 const NEEDS_SOURCE: usize = 3;
 
 impl CountRow {
-    /// Makes the row of this reader, without clauses.
-    pub fn new(alloc: Global, reader: u32, sources: u32) -> Result<CountRow, AllocError> {
+    /// Makes the row of this reader of the Hall violator, without clauses.
+    pub fn new(
+        alloc: Global,
+        reader: u32,
+        shortage: &HallViolator,
+    ) -> Result<CountRow, AllocError> {
+        let sources = shortage.sources();
         let size = sources.wrapping_add(2);
         Ok(CountRow {
             reader,
@@ -71,48 +76,49 @@ impl CountRow {
     /// Returns the literal that says that at least `count` of the readers have one of the sources up to this one. Most are constants and get
     /// no variable: of n sources about a sixth of the cube of n are left. At most the sources after this one serve readers besides, one each: so a
     /// count that leaves out no more readers than these is always reached.
-    fn at_least(&self, count: u32, source: u32) -> LiteralCode {
+    fn at_least(&self, count: u32, source: SourcePlace) -> LiteralCode {
         if count > self.reader {
             return NEVER;
         }
-        if source == self.sources {
+        let sources = source.number();
+        if sources == self.sources {
             return ALWAYS;
         }
-        if count > source {
+        if count > sources {
             return NEVER;
         }
-        let left_out = self.sources.wrapping_sub(source);
+        let left_out = self.sources.wrapping_sub(sources);
         if count == 0 || count.wrapping_add(left_out) <= self.reader {
             return ALWAYS;
         }
-        self.counts.get(source, count).literal
+        self.counts.get(sources, count).literal
     }
 
     /// Returns the smallest count for which the literal of this source is no constant: those up to reader + source - sources are always reached, as
     /// `at_least` says.
-    fn least_open(&self, source: u32) -> u32 {
-        let readers = self.reader.wrapping_add(source).wrapping_add(1);
+    fn least_open(&self, source: SourcePlace) -> u32 {
+        let readers = self.reader.wrapping_add(source.number()).wrapping_add(1);
         readers.saturating_sub(self.sources).max(1)
     }
 
     /// Returns the literal that says that the reader has one of the sources up to this one.
-    fn is_served(&self, source: u32) -> LiteralCode {
-        if source == self.sources {
+    fn is_served(&self, source: SourcePlace) -> LiteralCode {
+        if source.number() == self.sources {
             ALWAYS
         } else {
-            self.served.get(0, source).literal
+            self.served.get(0, source.number()).literal
         }
     }
 
     /// Returns the clause which says that the reader has this source or one before it, if it has one up to this one.
-    fn served_only(&self, source: u32) -> ShortClause {
-        self.served.get(0, source).clauses[2]
+    fn served_only(&self, source: SourcePlace) -> ShortClause {
+        self.served.get(0, source.number()).clauses[2]
     }
 
     /// Returns a clause of the definition of this count and source, by its place there: `BY_BEFORE`, `BY_SOURCE`, `NEEDS_FEWER` or
     /// `NEEDS_SOURCE`.
-    fn clause(&self, source: u32, count: u32, which: usize) -> ShortClause {
-        let definition = self.counts.get(source, count);
+    fn clause(&self, source: SourcePlace, count: u32, which: usize) -> ShortClause {
+        let definition = self.counts.get(source.number(), count);
         let clauses = &definition.clauses;
         if which < clauses.len() {
             clauses[which]
@@ -123,12 +129,12 @@ impl CountRow {
 
     /// Writes a clause for a count and source whose literal is a constant, so that later steps find it at the place of a definition's
     /// clause. Its literals are those of that clause without the constant.
-    fn set_border(&mut self, source: u32, count: u32, which: usize, known: ShortClause) {
-        let mut definition = self.counts.get(source, count);
+    fn set_border(&mut self, source: SourcePlace, count: u32, which: usize, known: ShortClause) {
+        let mut definition = self.counts.get(source.number(), count);
         if which < definition.clauses.len() {
             definition.clauses[which] = known;
         }
-        self.counts.set(source, count, definition);
+        self.counts.set(source.number(), count, definition);
     }
 
     /// Adds the clauses on the sources of this reader alone: its literal is true at each source from its own on. The clause of this number
@@ -142,12 +148,14 @@ impl CountRow {
     ) -> Result<(), AllocError> {
         let mut before = NEVER;
         for source in 1..self.sources {
-            let literal = has_source(reads, shortage, self.reader, source);
+            let place = SourcePlace::new(source);
+            let literal = has_source(reads, shortage, self.reader, place);
             let definition = writer.define_or(before, literal)?;
             self.served.set(0, source, definition);
             before = definition.literal;
         }
-        let last = has_source(reads, shortage, self.reader, self.sources);
+        let last = SourcePlace::new(self.sources);
+        let last = has_source(reads, shortage, self.reader, last);
         // From the last source down each of these hints makes a choice false; with none left the clause of the choices is the conflict.
         writer.begin([before, last, NEVER])?;
         for source in (1..self.sources).rev() {
@@ -168,7 +176,7 @@ impl CountRow {
         &self,
         taken: &Taken,
         definition: ShortClause,
-        source: u32,
+        source: SourcePlace,
         one_fewer: ShortClause,
         without_last: ShortClause,
     ) -> [ShortClause; 5] {
@@ -189,21 +197,22 @@ impl CountRow {
         taken: &Taken,
         before: &CountRow,
     ) -> Result<(), AllocError> {
-        for source in (1..self.sources).rev() {
-            let readers = self.reader.wrapping_add(source);
+        for number in (1..self.sources).rev() {
+            let source = SourcePlace::new(number);
+            let readers = self.reader.wrapping_add(number);
             if readers <= self.sources {
                 break;
             }
             let count = readers.wrapping_sub(self.sources);
-            let (next, more) = (source.wrapping_add(1), count.wrapping_add(1));
+            let (next, more) = (source.next(), count.wrapping_add(1));
             let literals = [
                 before.at_least(count, source),
                 self.is_served(source),
                 NEVER,
             ];
             let definition = self.clause(next, more, NEEDS_SOURCE);
-            let one_fewer = before.one_fewer.get(next, more);
-            let without_last = before.without_last.get(next, count);
+            let one_fewer = before.one_fewer.get(next.number(), more);
+            let without_last = before.without_last.get(next.number(), count);
             let hints = self.border_hints(taken, definition, next, one_fewer, without_last);
             let known = writer.derive(literals, &hints)?;
             self.set_border(source, count, NEEDS_SOURCE, known);
@@ -221,19 +230,20 @@ impl CountRow {
         before: &CountRow,
         last: u32,
     ) -> Result<(), AllocError> {
-        for source in 1..=last {
-            let previous = source.wrapping_sub(1);
+        for count in 1..=last {
+            let source = SourcePlace::new(count);
+            let previous = source.previous();
             let literals = [
-                before.at_least(source, source).negated(),
+                before.at_least(count, source).negated(),
                 self.is_served(source).negated(),
                 NEVER,
             ];
-            let definition = self.clause(previous, source, BY_SOURCE);
-            let one_fewer = before.one_fewer.get(source, source);
-            let without_last = before.without_last.get(source, source);
+            let definition = self.clause(previous, count, BY_SOURCE);
+            let one_fewer = before.one_fewer.get(count, count);
+            let without_last = before.without_last.get(count, count);
             let hints = self.border_hints(taken, definition, source, one_fewer, without_last);
             let known = writer.derive(literals, &hints)?;
-            self.set_border(source, source.wrapping_add(1), BY_SOURCE, known);
+            self.set_border(source, count.wrapping_add(1), BY_SOURCE, known);
         }
         Ok(())
     }
@@ -244,12 +254,13 @@ impl CountRow {
         writer: &mut ProofWriter,
         before: &CountRow,
     ) -> Result<(), AllocError> {
-        for source in 1..self.sources {
-            for count in self.least_open(source)..=self.reader.min(source) {
+        for number in 1..self.sources {
+            let source = SourcePlace::new(number);
+            for count in self.least_open(source)..=self.reader.min(number) {
                 let alone = before.at_least(count, source);
                 let fewer = before.at_least(count.wrapping_sub(1), source);
                 let definition = writer.define_either(alone, (fewer, self.is_served(source)))?;
-                self.counts.set(source, count, definition);
+                self.counts.set(number, count, definition);
             }
         }
         Ok(())
@@ -263,11 +274,12 @@ impl CountRow {
         taken: &Taken,
         before: &CountRow,
     ) -> Result<(), AllocError> {
-        for source in 1..=self.sources {
-            let previous = source.wrapping_sub(1);
+        for number in 1..=self.sources {
+            let source = SourcePlace::new(number);
+            let previous = source.previous();
             let definition = taken.definition(self.reader, source);
             let least = self.least_open(source).wrapping_sub(1).max(1);
-            for count in least..=self.reader.min(source) {
+            for count in least..=self.reader.min(number) {
                 let literals = [
                     self.at_least(count, source).negated(),
                     definition.literal,
@@ -277,15 +289,15 @@ impl CountRow {
                     definition.clauses[0],
                     definition.clauses[1],
                     self.clause(previous, count, BY_BEFORE),
-                    before.without_last.get(source, count),
+                    before.without_last.get(number, count),
                     self.clause(source, count, NEEDS_SOURCE),
                     self.served_only(source),
                     self.clause(previous, count, BY_SOURCE),
                     self.clause(source, count, NEEDS_FEWER),
-                    before.without_last.get(source, count.wrapping_sub(1)),
+                    before.without_last.get(number, count.wrapping_sub(1)),
                 ];
                 let known = writer.derive(literals, &hints)?;
-                self.without_last.set(source, count, known);
+                self.without_last.set(number, count, known);
             }
         }
         Ok(())
@@ -299,9 +311,10 @@ impl CountRow {
         taken: &Taken,
         before: &CountRow,
     ) -> Result<(), AllocError> {
-        for source in 1..self.sources {
-            let previous = source.wrapping_sub(1);
-            for count in self.least_open(source).max(2)..=self.reader.min(source) {
+        for number in 1..self.sources {
+            let source = SourcePlace::new(number);
+            let previous = source.previous();
+            for count in self.least_open(source).max(2)..=self.reader.min(number) {
                 let fewer = count.wrapping_sub(1);
                 let literals = [
                     self.at_least(count, source).negated(),
@@ -310,17 +323,17 @@ impl CountRow {
                 ];
                 let hints = [
                     self.clause(previous, fewer, BY_BEFORE),
-                    before.one_fewer.get(source, count),
+                    before.one_fewer.get(number, count),
                     self.clause(source, count, NEEDS_FEWER),
                     self.clause(source, count, NEEDS_SOURCE),
-                    before.without_last.get(source, fewer),
+                    before.without_last.get(number, fewer),
                     taken.exclusion(self.reader, source),
                     self.served_only(source),
                     self.clause(previous, fewer, BY_SOURCE),
-                    before.one_fewer.get(source, fewer),
+                    before.one_fewer.get(number, fewer),
                 ];
                 let known = writer.derive(literals, &hints)?;
-                self.one_fewer.set(source, count, known);
+                self.one_fewer.set(number, count, known);
             }
         }
         Ok(())

@@ -6,7 +6,7 @@ use crate::taken::Taken;
 use crate::units::UnitTable;
 use proof_log::ClauseId;
 use proof_log::codes::LiteralCode;
-use source_matching::{HallViolator, MatchingInstance};
+use source_matching::{HallViolator, MatchingInstance, ReaderId};
 use std::alloc::{AllocError, Global};
 
 /// A Hall violator, and what is cited of its readers.
@@ -23,13 +23,13 @@ fn open_clause(
     alloc: Global,
     writer: &mut ProofWriter,
     cited: Cited<'_>,
-    reader: u32,
+    reader: ReaderId,
 ) -> Result<ClauseId, AllocError> {
     let Cited { reads, units, .. } = cited;
     let clause = ClauseId::new(reads.reader(reader).clause);
     let mut literals = Vec::new(alloc);
     let mut hints = Vec::new(alloc);
-    for number in reads.first_choice(reader)..reads.first_choice(reader.wrapping_add(1)) {
+    for number in reads.first_choice(reader)..reads.first_choice(reader.next()) {
         let choice = reads.choice(number);
         let literal = LiteralCode::new(choice.literal());
         if choice.is_excluded {
@@ -59,14 +59,13 @@ fn add_row(
         reads,
         ..
     } = cited;
-    let sources = shortage.sources();
-    let mut row = CountRow::new(alloc, reader, sources)?;
-    let number = shortage.reader(reader);
-    let clause = open_clause(alloc, writer, cited, number)?;
+    let mut row = CountRow::new(alloc, reader, shortage)?;
+    let its = shortage.reader(reader);
+    let clause = open_clause(alloc, writer, cited, its)?;
     row.add_served(writer, reads, shortage, clause)?;
     row.add_full_ends(writer, taken, before)?;
     // The row before has one reader fewer: from the source of this reader's number on the clauses would be tautologies.
-    let last = reader.min(sources).saturating_sub(1);
+    let last = reader.min(shortage.sources()).saturating_sub(1);
     row.add_crowded_ends(writer, taken, before, last)?;
     row.add_counts(writer, before)?;
     // The last two cite clauses that the three before have added to this row.
@@ -74,7 +73,7 @@ fn add_row(
     row.add_one_fewer(writer, taken, before)?;
     let mut old = Vec::new(alloc);
     // Only a clause that `open_clause` has added is deleted, and not one that was there before.
-    if clause.number() != reads.reader(number).clause {
+    if clause.number() != reads.reader(its).clause {
         old.push(clause)?;
     }
     row.add_own_ids(&mut old)?;
@@ -97,11 +96,10 @@ fn add_last_row(
         reads,
         ..
     } = cited;
-    let sources = shortage.sources();
-    let mut row = CountRow::new(alloc, shortage.readers(), sources)?;
+    let mut row = CountRow::new(alloc, shortage.readers(), shortage)?;
     let clause = open_clause(alloc, writer, cited, shortage.reader(shortage.readers()))?;
     row.add_served(writer, reads, shortage, clause)?;
-    row.add_crowded_ends(writer, taken, before, sources)
+    row.add_crowded_ends(writer, taken, before, shortage.sources())
 }
 
 /// Adds all steps. The last one is the empty clause.
@@ -124,7 +122,7 @@ pub fn add_shortage(
         return Ok(());
     }
     let taken = Taken::of(alloc, writer, reads, shortage)?;
-    let mut before = CountRow::new(alloc, 0, shortage.sources())?;
+    let mut before = CountRow::new(alloc, 0, shortage)?;
     for reader in 1..shortage.readers() {
         before = add_row(alloc, writer, cited, &taken, &before, reader)?;
     }

@@ -4,7 +4,7 @@ use crate::proof_writer::{Definition, ProofWriter, add_ids};
 use crate::replay::ShortClause;
 use proof_log::ClauseId;
 use proof_log::codes::{LiteralCode, NEVER};
-use source_matching::{Grid, HallViolator, MatchingInstance};
+use source_matching::{Grid, HallViolator, MatchingInstance, SourcePlace};
 use std::alloc::{AllocError, Global};
 use total_tables::{at, put};
 
@@ -25,7 +25,7 @@ pub fn has_source(
     reads: &MatchingInstance,
     shortage: &HallViolator,
     reader: u32,
-    source: u32,
+    source: SourcePlace,
 ) -> LiteralCode {
     match shortage.choice(reader, source) {
         Some(choice) => LiteralCode::new(reads.choice(choice).literal()),
@@ -39,7 +39,7 @@ fn add_pair(
     reads: &MatchingInstance,
     shortage: &HallViolator,
     readers: (u32, u32),
-    source: u32,
+    source: SourcePlace,
 ) -> Result<ShortClause, AllocError> {
     let Some(first) = shortage.choice(readers.0, source) else {
         return Ok(ShortClause::tautology());
@@ -79,6 +79,7 @@ impl Taken {
             exclusions: Grid::new(alloc, rows, columns, ShortClause::tautology())?,
         };
         for source in 1..columns {
+            let source = SourcePlace::new(source);
             taken.add_source(alloc, writer, reads, shortage, source)?;
         }
         Ok(taken)
@@ -92,7 +93,7 @@ impl Taken {
         writer: &mut ProofWriter,
         reads: &MatchingInstance,
         shortage: &HallViolator,
-        source: u32,
+        source: SourcePlace,
     ) -> Result<(), AllocError> {
         let mut pairs = vec![in alloc; ShortClause::tautology(); shortage.readers() as usize]?;
         let mut old = Vec::new(alloc);
@@ -107,7 +108,7 @@ impl Taken {
             if reader < shortage.readers() {
                 let before = self.literal(reader.wrapping_sub(1), source);
                 let definition = writer.define_or(before, literal)?;
-                self.definitions.set(reader, source, definition);
+                self.definitions.set(reader, source.number(), definition);
                 let only = definition.clauses[2];
                 old.push(only.id)?;
             }
@@ -122,7 +123,7 @@ impl Taken {
         &mut self,
         writer: &mut ProofWriter,
         reader: u32,
-        source: u32,
+        source: SourcePlace,
         literal: LiteralCode,
         pairs: &[ShortClause],
     ) -> Result<(), AllocError> {
@@ -130,26 +131,26 @@ impl Taken {
         writer.begin([before.negated(), literal.negated(), NEVER])?;
         for other in (1..reader).rev() {
             writer.offer(at(pairs, other, ShortClause::tautology()))?;
-            writer.offer(self.definitions.get(other, source).clauses[2])?;
+            writer.offer(self.definition(other, source).clauses[2])?;
         }
         let exclusion = writer.add()?;
-        self.exclusions.set(reader, source, exclusion);
+        self.exclusions.set(reader, source.number(), exclusion);
         Ok(())
     }
 
     /// Returns the literal that says that one of the readers up to this one has the source.
-    pub fn literal(&self, reader: u32, source: u32) -> LiteralCode {
-        self.definitions.get(reader, source).literal
+    pub fn literal(&self, reader: u32, source: SourcePlace) -> LiteralCode {
+        self.definition(reader, source).literal
     }
 
     /// Returns the literal's definition: it follows from the one of the reader before, and from the reader's own choice.
-    pub fn definition(&self, reader: u32, source: u32) -> Definition {
-        self.definitions.get(reader, source)
+    pub fn definition(&self, reader: u32, source: SourcePlace) -> Definition {
+        self.definitions.get(reader, source.number())
     }
 
     /// Returns the clause which says that the reader has not the source if one before it has.
-    pub fn exclusion(&self, reader: u32, source: u32) -> ShortClause {
-        self.exclusions.get(reader, source)
+    pub fn exclusion(&self, reader: u32, source: SourcePlace) -> ShortClause {
+        self.exclusions.get(reader, source.number())
     }
 
     /// Adds the numbers of the clauses on this reader.

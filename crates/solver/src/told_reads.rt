@@ -3,8 +3,8 @@
 use assignment_trail::{FALSE, OrderedTrail};
 use clause_database::{LastWriter, ReadsFromTable, ReadsFromVariable};
 use counting_proofs::{
-    GreedyMatching, KnownOrder, MatchingInstance, Reader, ReadsFromEdge as Source, SourceSets,
-    Update,
+    GreedyMatching, KnownOrder, MatchingInstance, Reader, ReadsFromEdge as Source, SourceId,
+    SourceSets, Update,
 };
 use order_sets::Element;
 use proof_log::codes::Variable;
@@ -28,11 +28,10 @@ fn places_of(alloc: Global, reads_from: &ReadsFromTable) -> Result<Vec<u32>, All
     Ok(places)
 }
 
-/// Returns the number of the initial value of the reader's location, which is above those of all events.
-fn first_value(reads_from: &ReadsFromTable, reader: Element) -> u32 {
-    reads_from
-        .elements()
-        .wrapping_add(reads_from.location(reader).number())
+/// Returns the initial value of the reader's location, of which the number is above those of all events.
+fn first_value(reads_from: &ReadsFromTable, reader: Element) -> SourceId {
+    let location = reads_from.location(reader).number();
+    SourceId::new(reads_from.elements().wrapping_add(location))
 }
 
 /// What the sources of readers are looked up in: what is true, the reads-from variables, and the places of the events among the writers of their
@@ -55,7 +54,7 @@ impl<'s, 'a> ReadSources<'s, 'a> {
     /// clause has to cite why the variable is false.
     fn source_of(self, choice: ReadsFromVariable) -> Source {
         let (source, place) = match choice.writer {
-            Some(writer) => (writer.number(), Some(self.place_of(writer))),
+            Some(writer) => (SourceId::of(writer), Some(self.place_of(writer))),
             None => (first_value(self.reads_from, choice.reader), None),
         };
         Source {
@@ -70,7 +69,7 @@ impl<'s, 'a> ReadSources<'s, 'a> {
     /// Returns the last writer as a source of the final value.
     fn source_of_last(self, last: LastWriter) -> Source {
         Source {
-            source: last.writer.number(),
+            source: SourceId::of(last.writer),
             place: Some(self.place_of(last.writer)),
             variable: last.variable,
             first: last.first,
@@ -155,7 +154,7 @@ fn add_update(
     }
     let source = first_value(reads_from, element);
     sets.add_source(source);
-    Ok(source < sets.sources())
+    Ok(source.number() < sets.sources())
 }
 
 /// Adds the final values with their possible last writers.
@@ -171,7 +170,7 @@ fn add_finals(
             sets.add_reader(None)?;
         }
         if !is_excluded(trail, Variable::new(last.variable)) {
-            sets.add_source(last.writer.number());
+            sets.add_source(SourceId::of(last.writer));
         }
     }
     Ok(())

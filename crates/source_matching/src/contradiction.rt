@@ -5,6 +5,7 @@ use crate::infeasibility::{Infeasibility, find_lack};
 use crate::known_order::KnownOrder;
 use crate::last_writers::LastWriters;
 use crate::matching_instance::{MatchingInstance, Reader};
+use crate::reader_id::ReaderId;
 use crate::source_cycle::SourceCycle;
 use crate::source_sets::SourceSets;
 use std::alloc::{AllocError, Global};
@@ -57,10 +58,10 @@ impl SourceContradiction {
 fn add_excluded(
     literals: &mut Vec<u32>,
     reads: &MatchingInstance,
-    readers: &[u32],
+    readers: &[ReaderId],
 ) -> Result<(), AllocError> {
     for reader in readers {
-        for number in reads.first_choice(*reader)..reads.first_choice(reader.wrapping_add(1)) {
+        for number in reads.first_choice(*reader)..reads.first_choice(reader.next()) {
             let choice = reads.choice(number);
             if choice.is_excluded {
                 literals.push(choice.literal() ^ 1)?;
@@ -94,7 +95,7 @@ fn contradiction_of_ending(
     reads: &MatchingInstance,
     known: KnownOrder<'_>,
     ending: LastWriters,
-    readers: &[u32],
+    readers: &[ReaderId],
 ) -> Result<SourceContradiction, AllocError> {
     let all = with_last_reader(alloc, reads, &ending)?;
     let mut rests_on = Vec::new(alloc);
@@ -115,7 +116,7 @@ fn contradiction_of_ending(
 fn contradiction_of_shortage(
     alloc: Global,
     reads: &MatchingInstance,
-    readers: &[u32],
+    readers: &[ReaderId],
 ) -> Result<SourceContradiction, AllocError> {
     let mut rests_on = Vec::new(alloc);
     add_excluded(&mut rests_on, reads, readers)?;

@@ -2,13 +2,15 @@
 
 use crate::grid::Grid;
 use crate::matching_instance::MatchingInstance;
+use crate::reader_id::ReaderId;
+use crate::source_place::SourcePlace;
 use std::alloc::{AllocError, Global};
 use total_tables::{at, put, size};
 
 /// A Hall violator (Hall, "On representatives of subsets", 1935): some readers, and their possible sources, of which there is one fewer.
 /// Both are counted from 1, as the counts of the derivation are.
 pub struct HallViolator {
-    readers: Vec<u32>,
+    readers: Vec<ReaderId>,
     sources: u32,
     /// For each reader and source the number of the choice in the instance from which the violator was made, plus one, or 0. There are fewer
     /// sources than readers, so it has a column for each reader, and one for the source 0, which is none.
@@ -31,12 +33,12 @@ impl HallViolator {
     pub fn of(
         alloc: Global,
         reads: &MatchingInstance,
-        readers: &[u32],
+        readers: &[ReaderId],
     ) -> Result<HallViolator, AllocError> {
         let count = size(readers);
         let mut its_readers = Vec::with_capacity(alloc, readers.len())?;
         its_readers.extend_from_slice(readers)?;
-        let mut places = vec![in alloc; 0; reads.sources() as usize]?;
+        let mut places = vec![in alloc; SourcePlace::NONE; reads.sources() as usize]?;
         let mut shortage = HallViolator {
             sources: 0,
             choices: Grid::new(alloc, count.wrapping_add(1), count, 0)?,
@@ -48,21 +50,23 @@ impl HallViolator {
         Ok(shortage)
     }
 
-    /// Adds the choices of the reader that are not excluded. A source that is new has the next number; `places` has the number of each that is known,
-    /// or 0.
-    fn take_choices(&mut self, reads: &MatchingInstance, reader: u32, places: &mut [u32]) {
+    /// Adds the choices of the reader that are not excluded. A source that is new has the next place; `places` has that of each that is known, or
+    /// none.
+    fn take_choices(&mut self, reads: &MatchingInstance, reader: u32, places: &mut [SourcePlace]) {
         let number = self.reader(reader);
-        for choice in reads.first_choice(number)..reads.first_choice(number.wrapping_add(1)) {
+        for choice in reads.first_choice(number)..reads.first_choice(number.next()) {
             let its = reads.choice(choice);
             if its.is_excluded {
                 continue;
             }
-            if at(places, its.source, 0) == 0 {
+            let number = its.source.number();
+            if at(places, number, SourcePlace::NONE) == SourcePlace::NONE {
                 self.sources = self.sources.wrapping_add(1);
-                put(places, its.source, self.sources);
+                put(places, number, SourcePlace::new(self.sources));
             }
-            let source = at(places, its.source, 0);
-            self.choices.set(reader, source, choice.wrapping_add(1));
+            let source = at(places, number, SourcePlace::NONE);
+            self.choices
+                .set(reader, source.number(), choice.wrapping_add(1));
         }
     }
 
@@ -87,14 +91,18 @@ impl HallViolator {
         size(self.readers.as_slice())
     }
 
-    /// Returns the number of this reader among all, counted from 0.
-    pub fn reader(&self, reader: u32) -> u32 {
-        at(self.readers.as_slice(), reader.wrapping_sub(1), u32::MAX)
+    /// Returns the reader at this place, counted from 1.
+    pub fn reader(&self, reader: u32) -> ReaderId {
+        at(
+            self.readers.as_slice(),
+            reader.wrapping_sub(1),
+            ReaderId::NONE,
+        )
     }
 
-    /// Returns the number of the choice of this reader and source, if it can be made.
-    pub fn choice(&self, reader: u32, source: u32) -> Option<u32> {
-        let choice = self.choices.get(reader, source);
+    /// Returns the number of the choice of the reader and the source at these places, if it can be made.
+    pub fn choice(&self, reader: u32, source: SourcePlace) -> Option<u32> {
+        let choice = self.choices.get(reader, source.number());
         if choice == 0 {
             None
         } else {

@@ -3,6 +3,7 @@
 use crate::known_order::KnownOrder;
 use crate::last_writers::{LastWriters, candidates_of, writers_without_end};
 use crate::matching::Matching;
+use crate::reader_id::ReaderId;
 use crate::source_cycle::{SourceCycle, find_cycle};
 use crate::source_sets::SourceSets;
 use std::alloc::{AllocError, Global};
@@ -11,11 +12,11 @@ use std::alloc::{AllocError, Global};
 #[derive(Drop)]
 pub enum Infeasibility {
     /// A Hall violator: together they have one source fewer than they are (Hall, "On representatives of subsets", 1935).
-    HallViolator(Vec<u32>),
+    HallViolator(Vec<ReaderId>),
     /// A cycle of reads-from: none of these updates can come first.
     SourceCycle(SourceCycle),
     /// A Hall violator in which the last writer of a location counts as one more reader.
-    LastWriters(LastWriters, Vec<u32>),
+    LastWriters(LastWriters, Vec<ReaderId>),
 }
 
 /// Looks for a Hall violator with the last writer of a location among its readers. That one has the number after those of all readers.

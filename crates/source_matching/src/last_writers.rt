@@ -2,6 +2,8 @@
 
 use crate::known_order::KnownOrder;
 use crate::matching_instance::ReadsFromEdge;
+use crate::reader_id::ReaderId;
+use crate::source_id::SourceId;
 use crate::source_sets::SourceSets;
 use order_sets::{Element, next_element};
 use std::alloc::{AllocError, Global};
@@ -129,7 +131,7 @@ impl LastWriters {
             }
         }
         ReadsFromEdge {
-            source: source.number(),
+            source: SourceId::of(source),
             place: Some(place),
             variable,
             first,
@@ -169,15 +171,17 @@ pub fn writers_without_end(
     known: KnownOrder<'_>,
 ) -> Result<Vec<Element>, AllocError> {
     let mut done = vec![in alloc; 0; known.writers.words() as usize]?;
-    for reader in 0..possible.readers() {
+    for number in 0..possible.readers() {
+        let reader = ReaderId::new(number);
         if possible.update(reader).is_none()
-            && let Some(writer) = possible.first(reader)
+            && let Some(source) = possible.first(reader)
         {
-            add_location(known, done.as_mut_slice(), Element::new(writer));
+            add_location(known, done.as_mut_slice(), source.writer());
         }
     }
     let mut writers = Vec::new(alloc);
-    for reader in 0..possible.readers() {
+    for number in 0..possible.readers() {
+        let reader = ReaderId::new(number);
         if let Some(update) = possible.update(reader)
             && at(done.as_slice(), update.word(), u64::MAX) & update.bit() == 0
         {

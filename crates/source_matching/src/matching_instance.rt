@@ -1,5 +1,7 @@
 //! The matching instance of a formula: readers, sources, and the reads-from edges between them.
 
+use crate::reader_id::ReaderId;
+use crate::source_id::SourceId;
 use order_sets::Element;
 use std::alloc::{AllocError, Global};
 use total_tables::{at, size};
@@ -29,8 +31,7 @@ pub struct Reader {
 /// `-s x(r,q)` for all q but r, and that of the final value and the writer w `-s x(q,w)` for all q but w.
 #[derive(Clone, Copy)]
 pub struct ReadsFromEdge {
-    /// The source: the number of an operation, or that of the initial value of a location, which is above those of all operations.
-    pub source: u32,
+    pub source: SourceId,
     /// The source's place among the writers of its location, or none for the initial value.
     pub place: Option<u32>,
     pub variable: u32,
@@ -109,7 +110,7 @@ impl MatchingInstance {
 
     /// Adds a choice of the reader that was added last.
     pub fn add_choice(&mut self, choice: ReadsFromEdge) -> Result<(), AllocError> {
-        self.sources = self.sources.max(choice.source.saturating_add(1));
+        self.sources = self.sources.max(choice.source.number().saturating_add(1));
         self.choices.push(choice)?;
         Ok(())
     }
@@ -134,20 +135,20 @@ impl MatchingInstance {
         self.sources
     }
 
-    /// Returns the reader of this number, counted from 0.
-    pub fn reader(&self, number: u32) -> Reader {
+    /// Returns the reader of this number.
+    pub fn reader(&self, reader: ReaderId) -> Reader {
         let nobody = Reader {
             update: None,
             clause: 0,
         };
-        at(self.readers.as_slice(), number, nobody)
+        at(self.readers.as_slice(), reader.number(), nobody)
     }
 
     /// Returns the number of the reader's first choice, counted from 0. Its choices stand before the first one of the next reader.
-    pub fn first_choice(&self, reader: u32) -> u32 {
+    pub fn first_choice(&self, reader: ReaderId) -> u32 {
         at(
             self.begins.as_slice(),
-            reader,
+            reader.number(),
             size(self.choices.as_slice()),
         )
     }
@@ -155,7 +156,7 @@ impl MatchingInstance {
     /// Returns the choice of this number, counted from 0 through those of all readers. Past the end it is an excluded one.
     pub fn choice(&self, number: u32) -> ReadsFromEdge {
         let nothing = ReadsFromEdge {
-            source: u32::MAX,
+            source: SourceId::NONE,
             place: None,
             variable: 0,
             first: 0,
@@ -170,7 +171,7 @@ impl MatchingInstance {
     /// Each of two updates would stand before the other: if both come after the source, the clause against the one between it and the other
     /// forbids that. And an update that reads the last write comes after it. The order of the hints is the order in which they become unit,
     /// so the checker refuses another one.
-    pub fn hints_of_pair(&self, readers: (u32, u32), choices: (u32, u32)) -> [u32; 4] {
+    pub fn hints_of_pair(&self, readers: (ReaderId, ReaderId), choices: (u32, u32)) -> [u32; 4] {
         let reader = self.reader(readers.0);
         let other = self.reader(readers.1);
         let choice = self.choice(choices.0);

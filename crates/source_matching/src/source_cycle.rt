@@ -1,7 +1,9 @@
 //! Cycles of reads-from: updates of which none can come first.
 
+use crate::reader_id::ReaderId;
+use crate::source_id::next_source;
 use crate::source_sets::SourceSets;
-use order_sets::{Element, next_bit};
+use order_sets::Element;
 use std::alloc::{AllocError, Global};
 use total_tables::{at, put, size};
 
@@ -9,12 +11,12 @@ use total_tables::{at, put, size};
 /// them can come first.
 #[derive(Drop)]
 pub struct SourceCycle {
-    readers: Vec<u32>,
+    readers: Vec<ReaderId>,
 }
 
 impl SourceCycle {
     /// Returns the numbers of the readers.
-    pub fn readers(&self) -> &[u32] {
+    pub fn readers(&self) -> &[ReaderId] {
         self.readers.as_slice()
     }
 
@@ -25,16 +27,13 @@ impl SourceCycle {
     }
 }
 
-/// Returns for each source the reader of this operation, plus one, or 0.
-fn readers_by_source(alloc: Global, possible: &SourceSets) -> Result<Vec<u32>, AllocError> {
-    let mut readers = vec![in alloc; 0; possible.sources() as usize]?;
-    for reader in 0..possible.readers() {
+/// Returns for each source the reader of this operation, or none.
+fn readers_by_source(alloc: Global, possible: &SourceSets) -> Result<Vec<ReaderId>, AllocError> {
+    let mut readers = vec![in alloc; ReaderId::NONE; possible.sources() as usize]?;
+    for number in 0..possible.readers() {
+        let reader = ReaderId::new(number);
         if let Some(update) = possible.update(reader) {
-            put(
-                readers.as_mut_slice(),
-                update.number(),
-                reader.wrapping_add(1),
-            );
+            put(readers.as_mut_slice(), update.number(), reader);
         }
     }
     Ok(readers)
@@ -42,7 +41,7 @@ fn readers_by_source(alloc: Global, possible: &SourceSets) -> Result<Vec<u32>, A
 
 /// Returns whether all possible sources of the reader are among these.
 #[inline(always)]
-fn has_all_within(possible: &SourceSets, reader: u32, within: &[u64]) -> bool {
+fn has_all_within(possible: &SourceSets, reader: ReaderId, within: &[u64]) -> bool {
     for number in 0..possible.words() {
         if possible.word(reader, number) & !at(within, number, 0) != 0 {
             return false;
@@ -70,7 +69,8 @@ pub fn set_member(set: &mut [u64], element: Element, is_member: bool) {
 fn without_outsiders(alloc: Global, possible: &SourceSets) -> Result<(Vec<u64>, u32), AllocError> {
     let mut left = vec![in alloc; 0; possible.words() as usize]?;
     let mut count: u32 = 0;
-    for reader in 0..possible.readers() {
+    for number in 0..possible.readers() {
+        let reader = ReaderId::new(number);
         if let Some(update) = possible.update(reader) {
             set_member(left.as_mut_slice(), update, true);
             count = count.wrapping_add(1);
@@ -78,7 +78,8 @@ fn without_outsiders(alloc: Global, possible: &SourceSets) -> Result<(Vec<u64>, 
     }
     for _ in 0..possible.readers() {
         let before = count;
-        for reader in 0..possible.readers() {
+        for number in 0..possible.readers() {
+            let reader = ReaderId::new(number);
             if let Some(update) = possible.update(reader)
                 && is_member(left.as_slice(), update)
                 && !has_all_within(possible, reader, left.as_slice())
@@ -98,28 +99,28 @@ fn without_outsiders(alloc: Global, possible: &SourceSets) -> Result<(Vec<u64>, 
 fn reached_from(
     alloc: Global,
     possible: &SourceSets,
-    by_source: &[u32],
-    reader: u32,
-) -> Result<Vec<u32>, AllocError> {
+    by_source: &[ReaderId],
+    reader: ReaderId,
+) -> Result<Vec<ReaderId>, AllocError> {
     let mut is_reached = vec![in alloc; 0; possible.readers() as usize]?;
     let mut reached = Vec::new(alloc);
     reached.push(reader)?;
-    put(is_reached.as_mut_slice(), reader, 1);
+    put(is_reached.as_mut_slice(), reader.number(), 1);
     for place in 0..possible.readers() {
         if place >= size(reached.as_slice()) {
             break;
         }
-        let next = at(reached.as_slice(), place, 0);
+        let next = at(reached.as_slice(), place, ReaderId::NONE);
         for number in 0..possible.words() {
             let mut word = possible.word(next, number);
             for _ in 0..64 {
-                let Some(source) = next_bit(&mut word, number) else {
+                let Some(source) = next_source(&mut word, number) else {
                     break;
                 };
-                // A source that is no update would give the largest number, which counts as reached.
-                let other = at(by_source, source, 0).wrapping_sub(1);
-                if at(is_reached.as_slice(), other, 1) == 0 {
-                    put(is_reached.as_mut_slice(), other, 1);
+                // A source that is no update gives no reader, which counts as reached.
+                let other = at(by_source, source.number(), ReaderId::NONE);
+                if at(is_reached.as_slice(), other.number(), 1) == 0 {
+                    put(is_reached.as_mut_slice(), other.number(), 1);
                     reached.push(other)?;
                 }
             }
@@ -137,7 +138,8 @@ pub fn find_cycle(alloc: Global, possible: &SourceSets) -> Result<Option<SourceC
     }
     let by_source = readers_by_source(alloc, possible)?;
     let mut smallest = Vec::new(alloc);
-    for reader in 0..possible.readers() {
+    for number in 0..possible.readers() {
+        let reader = ReaderId::new(number);
         let is_left = match possible.update(reader) {
             Some(update) => is_member(left.as_slice(), update),
             None => false,

@@ -1,6 +1,8 @@
 //! Sets of sources as bits: a matching visits a word of 64 sources at once.
 
 use crate::matching_instance::MatchingInstance;
+use crate::reader_id::ReaderId;
+use crate::source_id::{SourceId, next_source};
 use order_sets::{Element, ElementSets};
 use std::alloc::{AllocError, Global};
 use total_tables::{at, put, size};
@@ -30,10 +32,11 @@ impl SourceSets {
     /// Returns the sources of choices that are not excluded.
     pub fn of(alloc: Global, reads: &MatchingInstance) -> Result<SourceSets, AllocError> {
         let mut sets = SourceSets::new(alloc, reads.readers(), reads.sources())?;
-        for reader in 0..reads.readers() {
+        for number in 0..reads.readers() {
+            let reader = ReaderId::new(number);
             let update = reads.reader(reader).update;
             sets.add_reader(update.map(|update| update.operation))?;
-            for number in reads.first_choice(reader)..reads.first_choice(reader.wrapping_add(1)) {
+            for number in reads.first_choice(reader)..reads.first_choice(reader.next()) {
                 let choice = reads.choice(number);
                 if !choice.is_excluded {
                     sets.add_source(choice.source);
@@ -67,16 +70,25 @@ impl SourceSets {
 
     /// Adds a source to those of the reader that was added last.
     #[inline(always)]
-    pub fn add_source(&mut self, source: u32) {
-        let last = self.readers().wrapping_sub(1);
-        self.insert(last, source >> 6, 1 << (source & 63));
+    pub fn add_source(&mut self, source: SourceId) {
+        let last = ReaderId::new(self.readers().wrapping_sub(1));
+        self.insert(last, source.word(), source.bit());
+    }
+
+    /// Returns the place of the word of this number in the reader's set.
+    #[inline(always)]
+    fn place_of(&self, reader: ReaderId, number: u32) -> u32 {
+        reader
+            .number()
+            .wrapping_mul(self.words)
+            .wrapping_add(number)
     }
 
     /// Adds the sources of a word to the set of the reader.
     #[inline(always)]
-    fn insert(&mut self, reader: u32, number: u32, sources: u64) {
+    fn insert(&mut self, reader: ReaderId, number: u32, sources: u64) {
         if number < self.words {
-            let place = reader.wrapping_mul(self.words).wrapping_add(number);
+            let place = self.place_of(reader, number);
             let word = at(self.bits.as_slice(), place, 0);
             put(self.bits.as_mut_slice(), place, word | sources);
         }
@@ -85,9 +97,9 @@ impl SourceSets {
     /// Sets the sources of the one more reader, in place, so that the last writers of each location are tried without a copy. It stands
     /// behind the readers that were added, so none may be added after this. Sources above the bound are left out.
     pub fn set_last(&mut self, sources: &[Element]) {
-        let last = self.readers();
+        let last = ReaderId::new(self.readers());
         for number in 0..self.words {
-            let place = last.wrapping_mul(self.words).wrapping_add(number);
+            let place = self.place_of(last, number);
             put(self.bits.as_mut_slice(), place, 0);
         }
         for source in sources {
@@ -103,8 +115,8 @@ impl SourceSets {
 
     /// Returns the reader's operation, if it is an update.
     #[inline(always)]
-    pub fn update(&self, reader: u32) -> Option<Element> {
-        let operation = at(self.updates.as_slice(), reader, Element::NONE);
+    pub fn update(&self, reader: ReaderId) -> Option<Element> {
+        let operation = at(self.updates.as_slice(), reader.number(), Element::NONE);
         if operation == Element::NONE {
             None
         } else {
@@ -125,17 +137,16 @@ impl SourceSets {
 
     /// Returns a word of the reader's set. Its number is below that of the words of a set: a larger one would read the next reader's.
     #[inline(always)]
-    pub fn word(&self, reader: u32, number: u32) -> u64 {
-        let place = reader.wrapping_mul(self.words).wrapping_add(number);
-        at(self.bits.as_slice(), place, 0)
+    pub fn word(&self, reader: ReaderId, number: u32) -> u64 {
+        at(self.bits.as_slice(), self.place_of(reader, number), 0)
     }
 
     /// Returns the first of the reader's sources, if it has one.
-    pub fn first(&self, reader: u32) -> Option<u32> {
+    pub fn first(&self, reader: ReaderId) -> Option<SourceId> {
         for number in 0..self.words {
-            let word = self.word(reader, number);
-            if word != 0 {
-                return Some(number.wrapping_mul(64).wrapping_add(word.trailing_zeros()));
+            let mut word = self.word(reader, number);
+            if let Some(source) = next_source(&mut word, number) {
+                return Some(source);
             }
         }
         None

@@ -7,7 +7,7 @@ use clause_blocks::trace_clauses::TraceClauses;
 use clause_meaning::clause_runs::ClauseRuns;
 use order_sets::Element;
 use solver::{LastWriter, ReadsFromTable, ReadsFromVariable};
-use source_matching::{MatchingInstance, Reader, ReadsFromEdge, Update};
+use source_matching::{MatchingInstance, Reader, ReaderId, ReadsFromEdge, SourceId, Update};
 use std::alloc::Global;
 use std::process::Abort;
 use trace_decision::guide::reads_from_table;
@@ -42,7 +42,7 @@ fn add_update(
     };
     ample(rt, reads.add_reader(reader));
     let edge = ReadsFromEdge {
-        source: number_of(choice.writer).unwrap_or(table.elements()),
+        source: SourceId::new(number_of(choice.writer).unwrap_or(table.elements())),
         place: place_of(table, choice.writer),
         variable: choice.variable,
         first: choice.first,
@@ -64,7 +64,7 @@ fn add_final_value(
     };
     ample(rt, reads.add_reader(reader));
     let edge = ReadsFromEdge {
-        source: last.writer.number(),
+        source: SourceId::of(last.writer),
         place: place_of(table, Some(last.writer)),
         variable: last.variable,
         first: last.first,
@@ -117,7 +117,8 @@ fn assert_updates(
     let mut reads = MatchingInstance::new(alloc);
     add_update(rt, &mut reads, table, choice);
     add_update(rt, &mut reads, table, other);
-    let hints = reads.hints_of_pair((0, 1), (0, 1));
+    let (first, second) = (ReaderId::new(0), ReaderId::new(1));
+    let hints = reads.hints_of_pair((first, second), (0, 1));
     match choice.writer {
         None => {
             assert!(rt; forbids(meanings, hints[0], choice, other));
@@ -145,7 +146,8 @@ fn assert_last(
     let mut reads = MatchingInstance::new(alloc);
     add_final_value(rt, &mut reads, table, last);
     add_update(rt, &mut reads, table, choice);
-    let hints = reads.hints_of_pair((0, 1), (0, 1));
+    let (first, second) = (ReaderId::new(0), ReaderId::new(1));
+    let hints = reads.hints_of_pair((first, second), (0, 1));
     let before = said(meanings, hints[0]);
     assert!(rt;
         is_before_last(
@@ -156,7 +158,7 @@ fn assert_last(
         )
     );
     assert!(rt; puts_after(meanings, hints[1], choice, last.writer));
-    let turned = reads.hints_of_pair((1, 0), (1, 0));
+    let turned = reads.hints_of_pair((second, first), (1, 0));
     assert!(rt; turned[0] == hints[0] && turned[1] == hints[1]);
 }
 

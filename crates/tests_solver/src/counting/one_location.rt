@@ -1,6 +1,8 @@
 //! Formulas of traces with one location, in which all processes have the same number of writers.
 
-use counting_proofs::{KnownOrder, MatchingInstance, OrderClauses, Reader, ReadsFromEdge, Update};
+use counting_proofs::{
+    KnownOrder, MatchingInstance, OrderClauses, Reader, ReadsFromEdge, SourceId, Update,
+};
 use dimacs::{Clause, Formula, Lit};
 use order_sets::{Element, ElementSets};
 use proof_log::ClauseId;
@@ -251,7 +253,7 @@ impl Spelling {
         }
         let is_excluded = self.exclude(made)?;
         self.reads.add_choice(ReadsFromEdge {
-            source: source.unwrap_or(self.writers),
+            source: SourceId::new(source.unwrap_or(self.writers)),
             place: source,
             variable,
             first,

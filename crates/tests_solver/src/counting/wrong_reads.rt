@@ -6,6 +6,7 @@ use crate::counting::one_location::{Location, Spelling};
 use counting_proofs::{
     KnownOrder, MatchingInstance, OrderClauses, Reader, ReadsFromEdge, find_contradiction,
 };
+use source_matching::ReaderId;
 use std::alloc::{AllocError, Global};
 use std::test::Fail;
 
@@ -135,8 +136,9 @@ impl Untruth {
     fn told(self, alloc: Global, reads: &MatchingInstance) -> Result<MatchingInstance, AllocError> {
         let mut said = MatchingInstance::new(alloc);
         for number in 0..reads.readers() {
-            said.add_reader(self.of_reader(reads.reader(number)))?;
-            for choice in reads.first_choice(number)..reads.first_choice(number.wrapping_add(1)) {
+            let reader = ReaderId::new(number);
+            said.add_reader(self.of_reader(reads.reader(reader)))?;
+            for choice in reads.first_choice(reader)..reads.first_choice(reader.next()) {
                 if let Some(choice) = self.of_choice(reads.choice(choice)) {
                     said.add_choice(choice)?;
                 }
