@@ -7,6 +7,7 @@ mod clause_database;
 mod clause_meaning;
 mod counting_proofs;
 mod dimacs;
+mod formula_numbers;
 mod guide;
 mod lrat_check;
 mod numbered_log;

@@ -5,7 +5,6 @@ use crate::candidates::Candidates;
 use crate::trail::Trail;
 use clause_database::{EncodingHints, ReadsFromTable, Reason, ReasonClause, Store};
 use order_sets::{Element, OrderMatrix, TripleIds};
-use proof_log::ClauseId;
 use proof_log::codes::{LiteralCode, NEVER, Variable};
 use std::alloc::{AllocError, Global};
 use total_tables::at;
@@ -55,7 +54,7 @@ impl<'a> OrderedTrail<'a> {
         Ok(OrderedTrail {
             trail: Trail::new(alloc, variables, order.variables())?,
             order,
-            ids: TripleIds::new(alloc, encoding.elements(), encoding.first().number())?,
+            ids: TripleIds::new(alloc, encoding.elements(), encoding.first())?,
             reads_from: encoding.reads_from(),
             candidates,
         })
@@ -70,13 +69,13 @@ impl<'a> OrderedTrail<'a> {
     /// Returns the literal which says that the first of two elements stands before the second.
     #[inline(always)]
     pub fn before(&self, a: Element, b: Element) -> LiteralCode {
-        LiteralCode::new(self.order.literal(a, b))
+        self.order.literal(a, b)
     }
 
     /// Returns the elements of which an order literal says that the first stands before the second.
     #[inline(always)]
     pub(crate) fn ends(&self, literal: LiteralCode) -> (Element, Element) {
-        self.order.ends(literal.code())
+        self.order.ends(literal)
     }
 
     /// Returns whether the variable is one of the order.
@@ -110,7 +109,7 @@ impl<'a> OrderedTrail<'a> {
         self.order.add(a, b);
         for implied in self.order.implied() {
             self.trail.push(
-                LiteralCode::new(implied.literal),
+                implied.literal,
                 Reason::Transitive {
                     element: implied.over,
                 },
@@ -135,7 +134,7 @@ impl<'a> OrderedTrail<'a> {
             Reason::Transitive { element } => {
                 let (a, b) = self.ends(literal);
                 ReasonClause::of_literals(
-                    ClauseId::new(self.ids.of_cycle(a, element, b)),
+                    self.ids.of_cycle(a, element, b),
                     self.before(element, a),
                     self.before(b, element),
                     NEVER,

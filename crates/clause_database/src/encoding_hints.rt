@@ -98,7 +98,7 @@ impl<'a> EncodingHints<'a> {
 
     /// Returns the order variable of these two events.
     pub fn variable_of_pair(self, a: Element, b: Element) -> Variable {
-        Variable::new(variable_of_pair(self.elements, a, b))
+        variable_of_pair(self.elements, a, b)
     }
 
     /// Returns the id of the first transitivity clause.

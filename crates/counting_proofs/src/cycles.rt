@@ -5,7 +5,7 @@ use crate::elimination::{Elimination, Side};
 use crate::step_log::StepLog;
 use crate::units::UnitTable;
 use order_sets::Element;
-use proof_log::codes::{LiteralCode, NEVER};
+use proof_log::codes::NEVER;
 use source_matching::{MatchingInstance, OrderClauses, ReaderId, SourceCycle};
 use std::alloc::{AllocError, Global};
 
@@ -33,16 +33,16 @@ fn add_clause(
     for number in reads.first_choice(reader)..reads.first_choice(reader.next()) {
         let choice = reads.choice(number);
         if choice.is_excluded {
-            hints.push(units.hint(LiteralCode::new(choice.literal()).negated()))?;
+            hints.push(units.hint(choice.literal().negated()))?;
         } else {
             let source = choice.source.writer();
             literals.push(elimination.literal(source, operation))?;
             // The first clause of a choice says that the source stands before the reader. With that denied the choice is not made.
-            hints.push(i64::from(choice.first))?;
+            hints.push(choice.first.hint())?;
             elimination.set_other(place, elimination.place_of(source));
         }
     }
-    hints.push(i64::from(reads.reader(reader).clause))?;
+    hints.push(reads.reader(reader).clause.hint())?;
     let clause = log.add(literals.as_slice(), hints.as_slice())?;
     elimination.set_clause(place, clause);
     Ok(())

@@ -88,11 +88,10 @@ impl Elimination {
 
     /// Returns the literal that says that the other one stands on this side of the operation.
     pub fn literal(&self, other: Element, operation: Element) -> LiteralCode {
-        let code = match self.side {
+        match self.side {
             Side::Before => self.order.before(other, operation),
             Side::Behind => self.order.before(operation, other),
-        };
-        LiteralCode::new(code)
+        }
     }
 
     /// Returns the number of the transitivity clause which says that what stands on this side of the one between stands on this side of the
@@ -102,7 +101,7 @@ impl Elimination {
             Side::Before => self.cycles.of_cycle(other, between, operation),
             Side::Behind => self.cycles.of_cycle(operation, between, other),
         };
-        i64::from(clause)
+        clause.hint()
     }
 
     /// Records the clause of the operation at this place, which has its own literal and speaks of others.

@@ -42,13 +42,13 @@ fn define_last(
     literals.push(literal)?;
     for writer in ending.writers() {
         if *writer != candidate {
-            literals.push(LiteralCode::new(known.order.before(candidate, *writer)))?;
+            literals.push(known.order.before(candidate, *writer))?;
         }
     }
     let only = log.add(literals.as_slice(), &[])?;
     for writer in ending.writers() {
         if *writer != candidate {
-            let comes_before = LiteralCode::new(known.order.before(*writer, candidate));
+            let comes_before = known.order.before(*writer, candidate);
             let group = -i64::from(only.number());
             log.add(&[literal.negated(), comes_before], &[group])?;
         }
@@ -89,7 +89,7 @@ fn add_clause(
         let Some(later) = ending.candidate_behind(known, *writer) else {
             continue;
         };
-        let comes_before = LiteralCode::new(known.order.before(*writer, later));
+        let comes_before = known.order.before(*writer, later);
         hints.push(units.hint(comes_before))?;
         if later != candidate {
             hints.push(elimination.step(later, *writer, candidate))?;
@@ -113,12 +113,12 @@ fn with_last_reader(
     let mut all = reads.copied(alloc)?;
     all.add_reader(Reader {
         update: None,
-        clause: clause.number(),
+        clause,
     })?;
     let mut candidate: u32 = 0;
     for its in defined {
-        let variable = its.literal.variable().number();
-        all.add_choice(ending.choice(candidate, variable, its.first.number()))?;
+        let variable = its.literal.variable();
+        all.add_choice(ending.choice(candidate, variable, its.first))?;
         candidate = candidate.wrapping_add(1);
     }
     Ok(all)

@@ -5,7 +5,6 @@ use crate::rows::CountRow;
 use crate::taken::Taken;
 use crate::units::UnitTable;
 use proof_log::ClauseId;
-use proof_log::codes::LiteralCode;
 use source_matching::{HallViolator, MatchingInstance, ReaderId};
 use std::alloc::{AllocError, Global};
 
@@ -26,12 +25,12 @@ fn open_clause(
     reader: ReaderId,
 ) -> Result<ClauseId, AllocError> {
     let Cited { reads, units, .. } = cited;
-    let clause = ClauseId::new(reads.reader(reader).clause);
+    let clause = reads.reader(reader).clause;
     let mut literals = Vec::new(alloc);
     let mut hints = Vec::new(alloc);
     for number in reads.first_choice(reader)..reads.first_choice(reader.next()) {
         let choice = reads.choice(number);
-        let literal = LiteralCode::new(choice.literal());
+        let literal = choice.literal();
         if choice.is_excluded {
             hints.push(units.hint(literal.negated()))?;
         } else {
@@ -73,7 +72,7 @@ fn add_row(
     row.add_one_fewer(writer, taken, before)?;
     let mut old = Vec::new(alloc);
     // Only a clause that `open_clause` has added is deleted, and not one that was there before.
-    if clause.number() != reads.reader(its).clause {
+    if clause != reads.reader(its).clause {
         old.push(clause)?;
     }
     row.add_own_ids(&mut old)?;

@@ -28,7 +28,7 @@ pub fn has_source(
     source: SourcePlace,
 ) -> LiteralCode {
     match shortage.choice(reader, source) {
-        Some(choice) => LiteralCode::new(reads.choice(choice).literal()),
+        Some(choice) => reads.choice(choice).literal(),
         None => NEVER,
     }
 }
@@ -50,14 +50,14 @@ fn add_pair(
     let numbers = (shortage.reader(readers.0), shortage.reader(readers.1));
     let hints = reads.hints_of_pair(numbers, (first, second));
     let literals = [
-        LiteralCode::new(reads.choice(first).literal()).negated(),
-        LiteralCode::new(reads.choice(second).literal()).negated(),
+        reads.choice(first).literal().negated(),
+        reads.choice(second).literal().negated(),
         NEVER,
     ];
     writer.begin(literals)?;
     for hint in hints {
-        if hint != 0 {
-            writer.add_hint(ClauseId::new(hint))?;
+        if hint != ClauseId::NONE {
+            writer.add_hint(hint)?;
         }
     }
     writer.add()

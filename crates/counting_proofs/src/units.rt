@@ -1,7 +1,7 @@
 //! Unit clauses that are cited.
 
 use proof_log::ClauseId;
-use proof_log::codes::LiteralCode;
+use proof_log::codes::{LiteralCode, NEVER};
 use std::alloc::{AllocError, Global};
 use total_tables::{at, put, size};
 
@@ -16,20 +16,20 @@ impl UnitTable {
     /// Makes the table of the unit clauses of these numbers, with these literals.
     pub fn of(
         alloc: Global,
-        literals: &[u32],
+        literals: &[LiteralCode],
         clauses: &[ClauseId],
     ) -> Result<UnitTable, AllocError> {
         let mut largest: u32 = 0;
         for literal in literals {
-            largest = largest.max(*literal);
+            largest = largest.max(literal.code());
         }
         let mut units = UnitTable {
             clauses: vec![in alloc; ClauseId::NONE; (largest as usize).saturating_add(1)]?,
         };
         for place in 0..size(literals) {
-            let literal = at(literals, place, 0);
+            let literal = at(literals, place, NEVER);
             let clause = at(clauses, place, ClauseId::NONE);
-            put(units.clauses.as_mut_slice(), literal, clause);
+            put(units.clauses.as_mut_slice(), literal.code(), clause);
         }
         Ok(units)
     }

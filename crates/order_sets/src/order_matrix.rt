@@ -3,14 +3,14 @@
 use crate::element::Element;
 use crate::element_sets::{ElementSets, MAX_ELEMENTS, next_element};
 use crate::order_numbers::{pair_count, pairs_below, variable_of_pair};
+use formula_numbers::{LiteralCode, NEVER, Variable};
 use std::alloc::{AllocError, Global};
 use total_tables::{at, piece, put};
 
 /// A literal of the order that follows, and the element over which it does: x(a,c) over b, from x(a,b) and x(b,c).
 #[derive(Clone, Copy)]
 pub struct Implied {
-    /// Twice the number of its variable, plus one if it is negative.
-    pub literal: u32,
+    pub literal: LiteralCode,
     /// The element between the two that the literal puts in order.
     pub over: Element,
 }
@@ -43,7 +43,7 @@ impl OrderMatrix {
         let elements = elements.min(MAX_ELEMENTS);
         let variables = pair_count(elements);
         let nothing = Implied {
-            literal: 0,
+            literal: NEVER,
             over: Element::NONE,
         };
         let mut matrix = OrderMatrix {
@@ -68,7 +68,7 @@ impl OrderMatrix {
             put(self.bases.as_mut_slice(), i, base);
             for j in i + 1..elements {
                 let variable = variable_of_pair(elements, Element::new(i), Element::new(j));
-                put(self.pairs.as_mut_slice(), variable, (i << 16) | j);
+                put(self.pairs.as_mut_slice(), variable.number(), (i << 16) | j);
             }
         }
     }
@@ -87,24 +87,24 @@ impl OrderMatrix {
     /// Returns the literal that says that the one stands before the other. They must be two different elements: of one with itself the number would be 0 or
     /// that of another pair.
     #[inline(always)]
-    pub fn literal(&self, a: Element, b: Element) -> u32 {
+    pub fn literal(&self, a: Element, b: Element) -> LiteralCode {
         let bases = self.bases.as_slice();
         if a < b {
             let base = at(bases, a.number(), 0);
-            base.wrapping_add(b.number()).wrapping_mul(2)
+            Variable::new(base.wrapping_add(b.number())).positive()
         } else {
             let base = at(bases, b.number(), 0);
-            base.wrapping_add(a.number()).wrapping_mul(2) | 1
+            Variable::new(base.wrapping_add(a.number())).negative()
         }
     }
 
     /// Returns the two elements of the literal, the one that it puts first before the other.
     #[inline(always)]
-    pub fn ends(&self, literal: u32) -> (Element, Element) {
-        let pair = at(self.pairs.as_slice(), literal >> 1, 0);
+    pub fn ends(&self, literal: LiteralCode) -> (Element, Element) {
+        let pair = at(self.pairs.as_slice(), literal.variable().number(), 0);
         let lower = Element::new(pair >> 16);
         let higher = Element::new(pair & 0xffff);
-        if literal & 1 == 0 {
+        if literal.is_positive() {
             (lower, higher)
         } else {
             (higher, lower)

@@ -4,6 +4,7 @@
 //! what it computes is not believed.
 
 use crate::element::Element;
+use formula_numbers::Variable;
 
 /// Returns the number of pairs of elements, which is that of the order's variables.
 #[inline(always)]
@@ -22,9 +23,10 @@ pub(crate) fn pairs_below(elements: u32, i: Element) -> u32 {
 /// Returns the order variable of these two elements: `y(i,j) = i * (2n - i - 1) / 2 + (j - i)`, where i is the lower one and j the
 /// higher one of n elements. It says that i stands before j.
 #[inline(always)]
-pub fn variable_of_pair(elements: u32, a: Element, b: Element) -> u32 {
+pub fn variable_of_pair(elements: u32, a: Element, b: Element) -> Variable {
     let (i, j) = if a < b { (a, b) } else { (b, a) };
-    pairs_below(elements, i).wrapping_add(j.number().wrapping_sub(i.number()))
+    let behind = j.number().wrapping_sub(i.number());
+    Variable::new(pairs_below(elements, i).wrapping_add(behind))
 }
 
 /// Returns the number of transitivity clauses of an order of this many elements: two for each three of them. They stand one after the other in a

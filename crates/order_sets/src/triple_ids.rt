@@ -1,6 +1,7 @@
 //! The numbers of the clauses that say that an order is transitive.
 
 use crate::element::Element;
+use formula_numbers::ClauseId;
 use std::alloc::{AllocError, Global};
 use total_tables::{at, put};
 
@@ -10,7 +11,7 @@ use total_tables::{at, put};
 /// Two tables by elements are added up, where one by triples would have 669,920 entries for 160 elements.
 #[derive(Drop)]
 pub struct TripleIds {
-    first: u32,
+    first: ClauseId,
     /// For each i the number of triples that begin below i, less that of the pairs (j, k) with j up to i, which `middle` counts and which do not
     /// come behind i. This may wrap below 0; the sum with an entry of `middle` does not.
     smallest: Vec<u32>,
@@ -19,8 +20,8 @@ pub struct TripleIds {
 }
 
 impl TripleIds {
-    /// Makes the numbers for an order of this number of elements, if the first clause has the given number.
-    pub fn new(alloc: Global, elements: u32, first: u32) -> Result<TripleIds, AllocError> {
+    /// Makes the numbers for an order of this number of elements, if this is the first clause.
+    pub fn new(alloc: Global, elements: u32, first: ClauseId) -> Result<TripleIds, AllocError> {
         let mut smallest = vec![in alloc; 0; elements as usize]?;
         let mut middle = vec![in alloc; 0; elements as usize]?;
         // The number of triples that begin below i, and of pairs (j, k) with j below the element at hand.
@@ -41,17 +42,15 @@ impl TripleIds {
     }
 
     /// Returns the number of the clause of i below j below k that has two negative literals, or with 1 instead of 0 that of the one which has one.
-    fn of_triple(&self, i: Element, j: Element, k: Element, one_negative: u32) -> u32 {
+    fn of_triple(&self, i: Element, j: Element, k: Element, one_negative: u32) -> ClauseId {
         let triple = at(self.smallest.as_slice(), i.number(), 0)
             .wrapping_add(at(self.middle.as_slice(), j.number(), 0))
             .wrapping_add(k.number().wrapping_sub(j.number()).wrapping_sub(1));
-        self.first
-            .wrapping_add(triple.wrapping_mul(2))
-            .wrapping_add(one_negative)
+        self.first.ahead(triple.wrapping_mul(2)).ahead(one_negative)
     }
 
     /// Returns the number of the clause that forbids the cycle in which a stands before b, b before c and c before a.
-    pub fn of_cycle(&self, a: Element, b: Element, c: Element) -> u32 {
+    pub fn of_cycle(&self, a: Element, b: Element, c: Element) -> ClauseId {
         // The cycle is turned so that its smallest element comes first. Then its direction picks one of two clauses.
         let (i, p, q) = if b < a && b < c {
             (b, c, a)

@@ -5,7 +5,6 @@ ghost use Rattle.proof_log.specs.Answers.{IsWithin};
 ghost use Rattle.proof_log.specs.Outcomes.{TakesConflict};
 
 use crate::answer::Answer;
-use crate::clause_id::ClauseId;
 use crate::learner::{Learner, SharingLearner};
 use crate::limit::refuted_within;
 use crate::log_chain::LogChain;
@@ -13,6 +12,7 @@ use crate::proof_log::ProofLog;
 use crate::searching::{SearchEnd, search_on};
 use crate::shared_clauses::SharedClauses;
 use dimacs::Assignment;
+use formula_numbers::ClauseId;
 use lrat_check::derivation::Derivation;
 use std::alloc::{AllocError, Global};
 use std::mem;

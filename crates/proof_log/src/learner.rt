@@ -1,11 +1,11 @@
 //! The interface of a clause-learning search to its budget.
 
-use crate::clause_id::ClauseId;
 use crate::codes::LiteralCode;
 use crate::log_chain::LogChain;
 use crate::proof_log::ProofLog;
 use crate::shared_clauses::SharedClauses;
 use dimacs::Assignment;
+use formula_numbers::ClauseId;
 use lrat_check::derivation::Derivation;
 use std::alloc::AllocError;
 

@@ -10,7 +10,8 @@
 //! - `LoggedAdditions` is a log or a chain for those who add further steps.
 //! - `CubeSolver` is what answers the cubes of a formula, each within a budget.
 //! - `within` and `refuted_within` keep derivations that no search has made to a budget.
-//! - `codes` says how literals and variables are written as numbers, and `ClauseId` is the number of a clause.
+//! - `codes` makes literals of a formula codes, and the other way round. It hands on the numbers of variables, literals and clauses that
+//!   `formula_numbers` has.
 //!
 //! So what is proved of an answer, that it keeps to its budget, is proved here, whatever the search does. Whether a derivation is right the
 //! checker decides.
@@ -18,7 +19,6 @@
 
 mod answer;
 mod attempt;
-mod clause_id;
 pub mod codes;
 mod cube_solver;
 mod learner;
@@ -31,8 +31,8 @@ mod shared_clauses;
 
 pub use answer::Answer;
 pub use attempt::{Attempt, TURN, search_alone, take_turns};
-pub use clause_id::ClauseId;
 pub use cube_solver::CubeSolver;
+pub use formula_numbers::ClauseId;
 pub use learner::{Learner, SharingLearner};
 pub use limit::{refuted_within, within};
 pub use log_chain::LogChain;

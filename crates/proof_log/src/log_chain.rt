@@ -2,9 +2,9 @@
 
 ghost use Rattle.std.specs.Prelude.{◌≡◌, ◌≤◌, ◌+◌, length, IfOk, OnOk};
 
-use crate::clause_id::ClauseId;
 use crate::logged_additions::LoggedAdditions;
 use crate::proof_log::{ProofLog, mark};
+use formula_numbers::ClauseId;
 use lrat_check::derivation::{Derivation, Step};
 use std::alloc::{AllocError, Global};
 use std::marker::Model;

@@ -1,6 +1,6 @@
 //! What was learned, for those who add further steps.
 
-use crate::clause_id::ClauseId;
+use formula_numbers::ClauseId;
 use lrat_check::derivation::Step;
 use std::alloc::{AllocError, Global};
 

@@ -5,10 +5,10 @@
 
 ghost use Rattle.std.specs.Prelude.{◌≡◌, ◌≤◌, ◌+◌, length, IfOk, OnOk};
 
-use crate::clause_id::ClauseId;
 use crate::codes::{LiteralCode, literal_of};
 use crate::logged_additions::LoggedAdditions;
 use dimacs::Clause;
+use formula_numbers::ClauseId;
 use lrat_check::derivation::{Derivation, Step};
 use lrat_check::hints::Hints;
 use std::alloc::{AllocError, Global};

@@ -1,7 +1,7 @@
 //! Clauses that a search hands to others.
 
-use crate::clause_id::ClauseId;
 use crate::codes::LiteralCode;
+use formula_numbers::ClauseId;
 use std::alloc::{AllocError, Global};
 use total_tables::{at, piece, size};
 

@@ -31,7 +31,7 @@ fn known_order<'b>(
     KnownOrder {
         order: OrderClauses {
             operations: encoding.elements(),
-            first: encoding.first().number(),
+            first: encoding.first(),
         },
         writers: reads_from.writers(),
         successors: trail.order().successors(),
@@ -79,14 +79,14 @@ impl<'a> Search<'a> {
     /// after those steps of the log on which they rest, and the next free id.
     fn unit_clauses<L: LoggedAdditions>(
         &mut self,
-        literals: &[u32],
+        literals: &[LiteralCode],
         log: &L,
     ) -> Result<(Vec<ClauseId>, Vec<Step>, ClauseId), AllocError> {
         let alloc = self.alloc;
         let mut units = UnitClauses::new(alloc, self.variables, log.free_id())?;
         let mut clauses = Vec::new(alloc);
         for literal in literals {
-            clauses.push(self.unit(&mut units, LiteralCode::new(*literal))?)?;
+            clauses.push(self.unit(&mut units, *literal)?)?;
         }
         let mut cited = Vec::from_slice(alloc, clauses.as_slice())?;
         cited.extend_from_slice(units.log.cited())?;

@@ -7,6 +7,7 @@ use counting_proofs::{
     SourceSets, Update,
 };
 use order_sets::Element;
+use proof_log::ClauseId;
 use proof_log::codes::Variable;
 use std::alloc::{AllocError, Global};
 use total_tables::{at, size};
@@ -57,23 +58,25 @@ impl<'s, 'a> ReadSources<'s, 'a> {
             Some(writer) => (SourceId::of(writer), Some(self.place_of(writer))),
             None => (first_value(self.reads_from, choice.reader), None),
         };
+        let variable = Variable::new(choice.variable);
         Source {
             source,
             place,
-            variable: choice.variable,
-            first: choice.first,
-            is_excluded: is_excluded(self.trail, Variable::new(choice.variable)),
+            variable,
+            first: ClauseId::new(choice.first),
+            is_excluded: is_excluded(self.trail, variable),
         }
     }
 
     /// Returns the last writer as a source of the final value.
     fn source_of_last(self, last: LastWriter) -> Source {
+        let variable = Variable::new(last.variable);
         Source {
             source: SourceId::of(last.writer),
             place: Some(self.place_of(last.writer)),
-            variable: last.variable,
-            first: last.first,
-            is_excluded: is_excluded(self.trail, Variable::new(last.variable)),
+            variable,
+            first: ClauseId::new(last.first),
+            is_excluded: is_excluded(self.trail, variable),
         }
     }
 
@@ -97,7 +100,7 @@ impl<'s, 'a> ReadSources<'s, 'a> {
                 reads.add_reader(Reader {
                     update: Some(update),
                     // The clause which says that one of its choices is made stands before those of its first choice.
-                    clause: choice.first.wrapping_sub(1),
+                    clause: ClauseId::new(choice.first).previous(),
                 })?;
             }
             reads.add_choice(self.source_of(*choice))?;
@@ -113,7 +116,7 @@ impl<'s, 'a> ReadSources<'s, 'a> {
                 clause = last.clause;
                 reads.add_reader(Reader {
                     update: None,
-                    clause,
+                    clause: ClauseId::new(clause),
                 })?;
             }
             reads.add_choice(self.source_of_last(*last))?;

@@ -8,6 +8,7 @@ use crate::matching_instance::{MatchingInstance, Reader};
 use crate::reader_id::ReaderId;
 use crate::source_cycle::SourceCycle;
 use crate::source_sets::SourceSets;
+use formula_numbers::{ClauseId, LiteralCode, Variable};
 use std::alloc::{AllocError, Global};
 use total_tables::size;
 
@@ -26,7 +27,7 @@ pub enum Kind {
 #[derive(Drop)]
 pub struct SourceContradiction {
     kind: Kind,
-    rests_on: Vec<u32>,
+    rests_on: Vec<LiteralCode>,
 }
 
 impl SourceContradiction {
@@ -35,10 +36,10 @@ impl SourceContradiction {
         &self.kind
     }
 
-    /// Returns the codes of the literals on which it rests. Each of them is true in the input: a choice is excluded, or an operation surely
+    /// Returns the literals on which it rests. Each of them is true in the input: a choice is excluded, or an operation surely
     /// comes after another. Only these become unit clauses of the proof, so a literal that is left out here makes the checker refuse the
     /// derivation.
-    pub fn rests_on(&self) -> &[u32] {
+    pub fn rests_on(&self) -> &[LiteralCode] {
         self.rests_on.as_slice()
     }
 
@@ -56,7 +57,7 @@ impl SourceContradiction {
 
 /// Adds the literals which say that choices of these readers are excluded.
 fn add_excluded(
-    literals: &mut Vec<u32>,
+    literals: &mut Vec<LiteralCode>,
     reads: &MatchingInstance,
     readers: &[ReaderId],
 ) -> Result<(), AllocError> {
@@ -64,7 +65,7 @@ fn add_excluded(
         for number in reads.first_choice(*reader)..reads.first_choice(reader.next()) {
             let choice = reads.choice(number);
             if choice.is_excluded {
-                literals.push(choice.literal() ^ 1)?;
+                literals.push(choice.literal().negated())?;
             }
         }
     }
@@ -81,10 +82,10 @@ fn with_last_reader(
     let mut all = reads.copied(alloc)?;
     all.add_reader(Reader {
         update: None,
-        clause: 0,
+        clause: ClauseId::NONE,
     })?;
     for candidate in 0..size(ending.candidates()) {
-        all.add_choice(ending.choice(candidate, 0, 0))?;
+        all.add_choice(ending.choice(candidate, Variable::NONE, ClauseId::NONE))?;
     }
     Ok(all)
 }

@@ -1,22 +1,21 @@
 //! The known order of operations. Its clauses are named by arithmetic: a table of them would have an entry for each triple.
 
+use formula_numbers::{ClauseId, LiteralCode};
 use order_sets::{Element, ElementSets, variable_of_pair};
 
-/// An order of operations: how many there are, and the number of the first clause which says that it is transitive. These clauses and
+/// An order of operations: how many there are, and the first clause which says that it is transitive. These clauses and
 /// the variables of the order are numbered as `order_sets` does.
 #[derive(Clone, Copy)]
 pub struct OrderClauses {
     pub operations: u32,
-    pub first: u32,
+    pub first: ClauseId,
 }
 
 impl OrderClauses {
-    /// Returns the code of the literal that says that the first operation stands before the second: twice its variable, plus one if it is
-    /// negative.
-    pub fn before(self, first: Element, second: Element) -> u32 {
+    /// Returns the literal that says that the first operation stands before the second.
+    pub fn before(self, first: Element, second: Element) -> LiteralCode {
         let variable = variable_of_pair(self.operations, first, second);
-        let code = variable.wrapping_mul(2);
-        if first < second { code } else { code | 1 }
+        LiteralCode::of(variable, first < second)
     }
 }
 

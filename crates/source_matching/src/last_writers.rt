@@ -5,6 +5,7 @@ use crate::matching_instance::ReadsFromEdge;
 use crate::reader_id::ReaderId;
 use crate::source_id::SourceId;
 use crate::source_sets::SourceSets;
+use formula_numbers::{ClauseId, Variable};
 use order_sets::{Element, next_element};
 use std::alloc::{AllocError, Global};
 use total_tables::{at, put};
@@ -122,7 +123,7 @@ impl LastWriters {
     }
 
     /// Returns the choice of the writer at this place among the candidates, counted from 0, with this variable, if its clauses begin with this one.
-    pub fn choice(&self, candidate: u32, variable: u32, first: u32) -> ReadsFromEdge {
+    pub fn choice(&self, candidate: u32, variable: Variable, first: ClauseId) -> ReadsFromEdge {
         let source = at(self.candidates.as_slice(), candidate, Element::NONE);
         let mut place: u32 = 0;
         for writer in &self.writers {

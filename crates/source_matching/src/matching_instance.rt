@@ -2,6 +2,7 @@
 
 use crate::reader_id::ReaderId;
 use crate::source_id::SourceId;
+use formula_numbers::{ClauseId, LiteralCode, Variable};
 use order_sets::Element;
 use std::alloc::{AllocError, Global};
 use total_tables::{at, size};
@@ -20,8 +21,8 @@ pub struct Update {
 pub struct Reader {
     /// The update that reads, or none for the final value.
     pub update: Option<Update>,
-    /// The number of the clause that says that it has one of its choices, counted from 1.
-    pub clause: u32,
+    /// The clause that says that it has one of its choices.
+    pub clause: ClauseId,
 }
 
 /// A reads-from edge: if its variable is true, the reader reads from this source.
@@ -34,38 +35,38 @@ pub struct ReadsFromEdge {
     pub source: SourceId,
     /// The source's place among the writers of its location, or none for the initial value.
     pub place: Option<u32>,
-    pub variable: u32,
-    /// The number of the first of its clauses, counted from 1.
-    pub first: u32,
+    pub variable: Variable,
+    /// The first of its clauses.
+    pub first: ClauseId,
     /// Whether the edge is excluded: `-s` is true.
     pub is_excluded: bool,
 }
 
 impl ReadsFromEdge {
-    /// Returns the code of the literal that says that the edge is chosen.
-    pub fn literal(self) -> u32 {
-        self.variable.wrapping_mul(2)
+    /// Returns the literal that says that the edge is chosen.
+    pub fn literal(self) -> LiteralCode {
+        self.variable.positive()
     }
 
-    /// Returns the number of its clause that forbids this writer, by its place, to come between, if it is an edge of this reader. The
-    /// reader and the source have no such clause, so each of them with a smaller place than the writer takes one off the number.
-    fn clause_against(self, reader: Reader, writer: u32) -> u32 {
-        let mut number = self.first.wrapping_add(writer);
+    /// Returns its clause that forbids this writer, by its place, to come between, if it is an edge of this reader. The reader and the source
+    /// have no such clause, so each of them with a smaller place than the writer takes one off its number.
+    fn clause_against(self, reader: Reader, writer: u32) -> ClauseId {
+        let mut clause = self.first.ahead(writer);
         if let Some(update) = reader.update {
             if update.place < writer {
-                number = number.wrapping_sub(1);
+                clause = clause.previous();
             }
             // The clause that puts the source before the reader comes first.
             if self.place.is_some() {
-                number = number.wrapping_add(1);
+                clause = clause.next();
             }
         }
         if let Some(place) = self.place {
             if place < writer {
-                number = number.wrapping_sub(1);
+                clause = clause.previous();
             }
         }
-        number
+        clause
     }
 }
 
@@ -139,7 +140,7 @@ impl MatchingInstance {
     pub fn reader(&self, reader: ReaderId) -> Reader {
         let nobody = Reader {
             update: None,
-            clause: 0,
+            clause: ClauseId::NONE,
         };
         at(self.readers.as_slice(), reader.number(), nobody)
     }
@@ -158,20 +159,24 @@ impl MatchingInstance {
         let nothing = ReadsFromEdge {
             source: SourceId::NONE,
             place: None,
-            variable: 0,
-            first: 0,
+            variable: Variable::NONE,
+            first: ClauseId::NONE,
             is_excluded: true,
         };
         at(self.choices.as_slice(), number, nothing)
     }
 
-    /// Returns the hints of a clause which says that two readers do not have the same source, filled up with 0 if fewer than four are
-    /// needed.
+    /// Returns the hints of a clause which says that two readers do not have the same source, filled up with none if fewer than
+    /// four are needed.
     ///
     /// Each of two updates would stand before the other: if both come after the source, the clause against the one between it and the other
     /// forbids that. And an update that reads the last write comes after it. The order of the hints is the order in which they become unit,
     /// so the checker refuses another one.
-    pub fn hints_of_pair(&self, readers: (ReaderId, ReaderId), choices: (u32, u32)) -> [u32; 4] {
+    pub fn hints_of_pair(
+        &self,
+        readers: (ReaderId, ReaderId),
+        choices: (u32, u32),
+    ) -> [ClauseId; 4] {
         let reader = self.reader(readers.0);
         let other = self.reader(readers.1);
         let choice = self.choice(choices.0);
@@ -181,23 +186,23 @@ impl MatchingInstance {
                 let between = choice.clause_against(reader, its_update.place);
                 let its_between = its_choice.clause_against(other, update.place);
                 if choice.place.is_none() {
-                    return [between, its_between, 0, 0];
+                    return [between, its_between, ClauseId::NONE, ClauseId::NONE];
                 }
                 [choice.first, its_choice.first, between, its_between]
             }
             (None, Some(update)) => [
                 choice.clause_against(reader, update.place),
                 its_choice.first,
-                0,
-                0,
+                ClauseId::NONE,
+                ClauseId::NONE,
             ],
             (Some(update), None) => [
                 its_choice.clause_against(other, update.place),
                 choice.first,
-                0,
-                0,
+                ClauseId::NONE,
+                ClauseId::NONE,
             ],
-            (None, None) => [0; 4],
+            (None, None) => [ClauseId::NONE; 4],
         }
     }
 }

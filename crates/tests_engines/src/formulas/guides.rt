@@ -58,7 +58,7 @@ fn numbers_cycles(meanings: &ClauseRuns<'_>, count: usize, ids: &TripleIds) -> b
             } else {
                 ids.of_cycle(first, second, third)
             };
-            if number as usize != place.wrapping_add(1) {
+            if number.number() as usize != place.wrapping_add(1) {
                 return false;
             }
         }
@@ -152,10 +152,7 @@ fn assert_guided(rt: &impl Abort, alloc: Global, text: &str, choices: usize, las
     let meanings = ample(rt, ClauseRuns::of(alloc, &list));
     let guide = guide_to_order(&list);
     assert!(rt; names_transitivity(&meanings, list.count(), guide));
-    let ids = ample(
-        rt,
-        TripleIds::new(alloc, guide.elements(), guide.first().number()),
-    );
+    let ids = ample(rt, TripleIds::new(alloc, guide.elements(), guide.first()));
     assert!(rt; numbers_cycles(&meanings, list.count(), &ids));
     let table = ample(rt, reads_from_table(alloc, &list));
     assert!(rt; right_choices(&meanings, &table) == Some(choices));

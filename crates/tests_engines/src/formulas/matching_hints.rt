@@ -5,6 +5,7 @@ use crate::formulas::said_clauses::{is_after, is_against, is_before_last, said};
 use crate::traces::{ALL_FAMILIES, UPDATES, reduced_of};
 use clause_blocks::trace_clauses::TraceClauses;
 use clause_meaning::clause_runs::ClauseRuns;
+use formula_numbers::{ClauseId, Variable};
 use order_sets::Element;
 use solver::{LastWriter, ReadsFromTable, ReadsFromVariable};
 use source_matching::{MatchingInstance, Reader, ReaderId, ReadsFromEdge, SourceId, Update};
@@ -38,14 +39,14 @@ fn add_update(
     };
     let reader = Reader {
         update: Some(update),
-        clause: 0,
+        clause: ClauseId::NONE,
     };
     ample(rt, reads.add_reader(reader));
     let edge = ReadsFromEdge {
         source: SourceId::new(number_of(choice.writer).unwrap_or(table.elements())),
         place: place_of(table, choice.writer),
-        variable: choice.variable,
-        first: choice.first,
+        variable: Variable::new(choice.variable),
+        first: ClauseId::new(choice.first),
         is_excluded: false,
     };
     ample(rt, reads.add_choice(edge));
@@ -60,27 +61,27 @@ fn add_final_value(
 ) {
     let reader = Reader {
         update: None,
-        clause: last.clause,
+        clause: ClauseId::new(last.clause),
     };
     ample(rt, reads.add_reader(reader));
     let edge = ReadsFromEdge {
         source: SourceId::of(last.writer),
         place: place_of(table, Some(last.writer)),
-        variable: last.variable,
-        first: last.first,
+        variable: Variable::new(last.variable),
+        first: ClauseId::new(last.first),
         is_excluded: false,
     };
     ample(rt, reads.add_choice(edge));
 }
 
-/// Returns whether the clause of this number forbids the reader of `other` to come between the source of the choice and its reader.
+/// Returns whether this clause forbids the reader of `other` to come between the source of the choice and its reader.
 fn forbids(
     meanings: &ClauseRuns<'_>,
-    number: u32,
+    clause: ClauseId,
     choice: ReadsFromVariable,
     other: ReadsFromVariable,
 ) -> bool {
-    let meaning = said(meanings, number);
+    let meaning = said(meanings, clause.number());
     is_against(
         meaning,
         choice.reader.number(),
@@ -90,15 +91,15 @@ fn forbids(
     )
 }
 
-/// Returns whether the clause of this number puts the reader of the choice after the source.
+/// Returns whether this clause puts the reader of the choice after the source.
 fn puts_after(
     meanings: &ClauseRuns<'_>,
-    number: u32,
+    clause: ClauseId,
     choice: ReadsFromVariable,
     source: Element,
 ) -> bool {
     is_after(
-        said(meanings, number),
+        said(meanings, clause.number()),
         choice.reader.number(),
         choice.variable,
         source.number(),
@@ -123,7 +124,7 @@ fn assert_updates(
         None => {
             assert!(rt; forbids(meanings, hints[0], choice, other));
             assert!(rt; forbids(meanings, hints[1], other, choice));
-            assert!(rt; hints[2] == 0 && hints[3] == 0);
+            assert!(rt; hints[2] == ClauseId::NONE && hints[3] == ClauseId::NONE);
         }
         Some(source) => {
             assert!(rt; puts_after(meanings, hints[0], choice, source));
@@ -148,7 +149,7 @@ fn assert_last(
     add_update(rt, &mut reads, table, choice);
     let (first, second) = (ReaderId::new(0), ReaderId::new(1));
     let hints = reads.hints_of_pair((first, second), (0, 1));
-    let before = said(meanings, hints[0]);
+    let before = said(meanings, hints[0].number());
     assert!(rt;
         is_before_last(
             before,

@@ -6,6 +6,7 @@ use counting_proofs::{
 use dimacs::{Clause, Formula, Lit};
 use order_sets::{Element, ElementSets};
 use proof_log::ClauseId;
+use proof_log::codes::{LiteralCode, Variable};
 use std::alloc::{AllocError, Global};
 
 /// A writer of the location: a write, or an update, which reads too.
@@ -37,8 +38,8 @@ pub struct Spelling {
     random: u64,
     excluded: u64,
     clauses: Vec<Clause>,
-    /// The codes of literals that have clauses of their own, and the numbers of these clauses.
-    units: Vec<(u32, u32)>,
+    /// The literals that have clauses of their own, and these clauses.
+    units: Vec<(LiteralCode, ClauseId)>,
     other_writers: ElementSets,
     successors: ElementSets,
     pub reads: MatchingInstance,
@@ -125,30 +126,30 @@ impl Spelling {
     /// Adds the clause of this one number.
     fn add_unit(&mut self, number: i32) -> Result<(), AllocError> {
         let clause = self.add(&[number])?;
-        let code = number.unsigned_abs().wrapping_mul(2);
-        let code = if number < 0 { code | 1 } else { code };
-        self.units.push((code, clause))?;
+        let variable = Variable::new(number.unsigned_abs());
+        let literal = LiteralCode::of(variable, number >= 0);
+        self.units.push((literal, ClauseId::new(clause)))?;
         Ok(())
     }
 
-    /// The number of the clause that has the literal of this code alone.
-    fn unit(&self, code: u32) -> ClauseId {
-        let mut number = 0;
-        for (literal, clause) in &self.units {
-            if *literal == code {
-                number = *clause;
+    /// The clause that has this literal alone.
+    fn unit(&self, literal: LiteralCode) -> ClauseId {
+        let mut found = ClauseId::NONE;
+        for (other, clause) in &self.units {
+            if *other == literal {
+                found = *clause;
             }
         }
-        ClauseId::new(number)
+        found
     }
 
-    /// The numbers of the clauses that have the literals of these codes alone.
-    pub fn units(&self, codes: &[u32]) -> Result<Vec<ClauseId>, AllocError> {
-        let mut numbers = Vec::new(self.alloc);
-        for code in codes {
-            numbers.push(self.unit(*code))?;
+    /// The clauses that have one of these literals alone.
+    pub fn units(&self, literals: &[LiteralCode]) -> Result<Vec<ClauseId>, AllocError> {
+        let mut clauses = Vec::new(self.alloc);
+        for literal in literals {
+            clauses.push(self.unit(*literal))?;
         }
-        Ok(numbers)
+        Ok(clauses)
     }
 
     /// Gives what is known of the order.
@@ -156,7 +157,7 @@ impl Spelling {
         KnownOrder {
             order: OrderClauses {
                 operations: self.writers,
-                first: 1,
+                first: ClauseId::new(1),
             },
             writers: &self.other_writers,
             successors: &self.successors,
@@ -224,6 +225,7 @@ impl Spelling {
             operation: Element::new(place),
             place,
         });
+        let clause = ClauseId::new(clause);
         self.reads.add_reader(Reader { update, clause })?;
         let mut variable = first;
         for source in &sources {
@@ -255,8 +257,8 @@ impl Spelling {
         self.reads.add_choice(ReadsFromEdge {
             source: SourceId::new(source.unwrap_or(self.writers)),
             place: source,
-            variable,
-            first,
+            variable: Variable::new(variable),
+            first: ClauseId::new(first),
             is_excluded,
         })
     }

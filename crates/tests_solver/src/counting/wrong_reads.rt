@@ -6,6 +6,7 @@ use crate::counting::one_location::{Location, Spelling};
 use counting_proofs::{
     KnownOrder, MatchingInstance, OrderClauses, Reader, ReadsFromEdge, find_contradiction,
 };
+use proof_log::codes::Variable;
 use source_matching::ReaderId;
 use std::alloc::{AllocError, Global};
 use std::test::Fail;
@@ -89,8 +90,8 @@ const OF_ORDERS: [ReadsMistake; 3] = [
 /// The choice with the mistake in it.
 fn mistaken_choice(choice: ReadsFromEdge, mistake: ReadsMistake) -> ReadsFromEdge {
     ReadsFromEdge {
-        variable: choice.variable.wrapping_add(mistake.variables),
-        first: choice.first.wrapping_add(mistake.choices),
+        variable: Variable::new(choice.variable.number().wrapping_add(mistake.variables)),
+        first: choice.first.ahead(mistake.choices),
         ..choice
     }
 }
@@ -111,7 +112,7 @@ impl Untruth {
     fn of_reader(self, reader: Reader) -> Reader {
         match self {
             Untruth::Mistaken(mistake) => Reader {
-                clause: reader.clause.wrapping_add(mistake.readers),
+                clause: reader.clause.ahead(mistake.readers),
                 ..reader
             },
             _ => reader,
@@ -161,7 +162,7 @@ fn is_accepted(
     };
     let reads = Untruth::Mistaken(mistake).told(alloc, &spelling.reads)?;
     let order = OrderClauses {
-        first: known.order.first.wrapping_add(mistake.order),
+        first: known.order.first.ahead(mistake.order),
         ..known.order
     };
     let said = MatchingProblem {
