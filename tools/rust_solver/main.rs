@@ -43,6 +43,8 @@ use reducer::expand::expand;
 use reducer::reduced::{Reduced, reduce};
 use schedule_decode::decode::schedule_of;
 use schedule_text::schedule_writer::write_schedule;
+use seat_rounds::ModelSearch;
+use seat_rounds::beside::RoundBeside;
 use seat_rounds::seats::Seats;
 use shim::{Global, setting};
 use solver::{PreparedFormula, Search, solve_cube};
@@ -181,7 +183,7 @@ fn leaf_cube(number: usize, depth: u32) -> Vec<Lit> {
 }
 
 /// Runs a round of all seats, each of which is taken by the next thread that is free. Returns the seconds of the slowest.
-fn run_round<S: SharingLearner + Send>(seats: &Seats<S>, count: usize) -> f64 {
+fn run_round<Q: CubeSolver + Sync>(round: &Q, count: usize) -> f64 {
     let depth = count.next_power_of_two().trailing_zeros();
     let next = AtomicUsize::new(0);
     let longest = Mutex::new(0.0_f64);
@@ -192,7 +194,7 @@ fn run_round<S: SharingLearner + Send>(seats: &Seats<S>, count: usize) -> f64 {
                 break;
             }
             let begun = thread_seconds();
-            seats.round.solve(Global, &leaf_cube(number, depth), 0).expect("memory");
+            round.solve(Global, &leaf_cube(number, depth), 0).expect("memory");
             let seconds = thread_seconds() - begun;
             let mut longest = longest.lock().expect("no panic");
             *longest = longest.max(seconds);
@@ -231,31 +233,78 @@ impl<S: SharingLearner + Send> SeatSearch<S> {
         SeatSearch { seats, left, sharers, budget }
     }
 
+    /// Begins a round of these seats, if there are conflicts left for each.
+    fn begin_round(&mut self, most: u64, sharers: u64) -> u64 {
+        let sharers = if self.sharers == 1 { 1 } else { sharers };
+        let conflicts = most.min(self.left / sharers);
+        self.left -= conflicts * sharers;
+        self.seats.begin_round(conflicts).expect("memory");
+        conflicts
+    }
+
+    /// Reports the round that has ended, and returns its answer.
+    fn end_round(&mut self, report: &mut Report) -> Option<Answer> {
+        report.rounds += 1;
+        for (number, slot) in self.seats.round.seats.iter_mut().enumerate() {
+            report.seats[number] += slot.get_mut().attempt.log.additions();
+        }
+        if let Some(winner) = winner_of(&mut self.seats) {
+            report.found_by = format!("seat {winner}");
+        }
+        let answer = self.seats.answer(setting!("MOST_STEPS", u64, self.budget)).expect("memory")?;
+        if winner_of(&mut self.seats).is_none() {
+            report.found_by = "counting after a round".to_string();
+        }
+        Some(answer)
+    }
+
     /// Goes on for at most this many rounds.
     fn go_on(&mut self, rounds: u64, report: &mut Report) -> Option<Answer> {
         for _ in 0..rounds {
-            let conflicts = setting!("ROUND_CONFLICTS", u64, 100).min(self.left / self.sharers);
-            if conflicts == 0 {
+            if self.begin_round(setting!("ROUND_CONFLICTS", u64, 100), self.sharers) == 0 {
                 return Some(Answer::Open);
             }
-            self.left -= conflicts * self.sharers;
-            self.seats.begin_round(conflicts).expect("memory");
-            report.longest += run_round(&self.seats, report.seats.len());
-            report.rounds += 1;
-            for (number, slot) in self.seats.round.seats.iter_mut().enumerate() {
-                report.seats[number] += slot.get_mut().attempt.log.additions();
-            }
-            if let Some(winner) = winner_of(&mut self.seats) {
-                report.found_by = format!("seat {winner}");
-            }
-            if let Some(answer) = self.seats.answer(setting!("MOST_STEPS", u64, self.budget)).expect("memory") {
-                if winner_of(&mut self.seats).is_none() {
-                    report.found_by = "counting after a round".to_string();
-                }
-                return Some(answer);
+            report.longest += run_round(&self.seats.round, report.seats.len());
+            let answer = self.end_round(report);
+            if answer.is_some() {
+                return answer;
             }
         }
         None
+    }
+
+    /// Does what `SeatSearch::look_beside` does.
+    fn look_beside<M: ModelSearch + Sync>(&mut self, models: &M, rounds: u64, report: &mut Report) -> Option<Answer> {
+        let count = report.seats.len();
+        self.begin_round(setting!("ROUND_CONFLICTS", u64, 100) * rounds, (count - models.ways()) as u64);
+        let mut beside = RoundBeside::new(Global, &self.seats.round, models).expect("memory");
+        report.longest += run_round(&beside, count);
+        let found = beside.model(Global, count).expect("memory");
+        let answer = self.end_round(report);
+        match found {
+            Some(model) => {
+                report.found_by = "states beside".to_string();
+                Some(Answer::Model(model))
+            }
+            None => answer,
+        }
+    }
+}
+
+/// Searches of states of these kinds, as `trace_decision` has them.
+struct StateSearches<'a> {
+    reduced: &'a Reduced,
+    clauses: &'a TraceClauses,
+    kinds: &'a [StateSearchKind],
+}
+
+impl ModelSearch for StateSearches<'_> {
+    fn ways(&self) -> usize {
+        self.kinds.len()
+    }
+
+    fn look(&self, alloc: Global, way: usize) -> Result<Option<Assignment>, shim::AllocError> {
+        model_by_states(alloc, self.reduced.kept(), self.clauses, self.kinds[way])
     }
 }
 
@@ -283,24 +332,24 @@ fn search_on<'a>(
     }
     shim::note_steps(0, 0);
     let mut seats = SeatSearch::new(prepared.begin_seats(Global, first).expect("memory"), budget, report);
-    let early = (setting!("EARLY_ROUNDS", u64, 8), StateSearchKind::Broad, "early", "broad");
-    let later = (setting!("LATER_ROUNDS", u64, 16), StateSearchKind::Spendthrift, "later", "spendthrift");
-    for (rounds, kind, phase, name) in [early, later] {
-        let found = seats.go_on(rounds, report);
-        report.end(phase);
-        // If the conflicts are used up, a schedule is looked for nevertheless.
-        let found = found.filter(|answer| !matches!(answer, Answer::Open)).or_else(|| model_of(reduced, clauses, kind, name, report));
-        if let Some(answer) = found {
-            return answer;
-        }
+    let found = seats.go_on(setting!("EARLY_ROUNDS", u64, 8), report);
+    report.end("early");
+    // If the conflicts are used up, a schedule is looked for nevertheless.
+    if let Some(answer) = found.filter(|answer| !matches!(answer, Answer::Open)) {
+        return answer;
     }
-    let found = seats.go_on(setting!("LAST_ROUNDS", u64, 64), report);
+    let broad = StateSearches { reduced, clauses, kinds: &[StateSearchKind::Broad, StateSearchKind::Spendthrift] };
+    let found = seats.look_beside(&broad, setting!("BESIDE_BROAD", u64, 5), report);
+    report.end("broad");
+    let found = found.or_else(|| seats.go_on(setting!("LAST_ROUNDS", u64, 80), report));
     report.end("last");
-    let found = found.or_else(|| model_of(reduced, clauses, StateSearchKind::Patient, "patient", report));
     if let Some(answer) = found {
         return answer;
     }
-    let answer = seats.go_on(budget, report);
+    let patient = StateSearches { reduced, clauses, kinds: &[StateSearchKind::Patient] };
+    let found = seats.look_beside(&patient, setting!("BESIDE_PATIENT", u64, 10), report);
+    report.end("patient");
+    let answer = found.or_else(|| seats.go_on(budget, report));
     report.end("seats");
     answer.unwrap_or(Answer::Open)
 }

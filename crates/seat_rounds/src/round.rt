@@ -20,7 +20,7 @@ pub(crate) struct Round<S> {
 
 /// Returns the number of the leaf of this cube in a full tree, from 0. The cube's literals stand from the root on, and a negative one leads to the right:
 /// they are the number's bits, the highest first.
-fn leaf_of(cube: &[Lit]) -> usize {
+pub(crate) fn leaf_of(cube: &[Lit]) -> usize {
     let mut leaf: usize = 0;
     for literal in cube {
         leaf = leaf.wrapping_mul(2);
@@ -31,18 +31,24 @@ fn leaf_of(cube: &[Lit]) -> usize {
     leaf
 }
 
-impl<S: SharingLearner + Drop> CubeSolver for Round<S> {
-    fn solve(&self, _alloc: Global, cube: &[Lit], _budget: u64) -> Result<Answer, AllocError> {
-        // The budget of a cube is not asked: a seat goes by the conflicts of the round, and the answer, which is open, has no steps.
-        let number = leaf_of(cube);
+impl<S: SharingLearner + Drop> Round<S> {
+    /// Runs the seat of this number, if there is one, for at most this many conflicts.
+    pub(crate) fn run_seat(&self, number: usize, conflicts: u64) {
         let Some(slot) = self.seats.get(number) else {
-            return Ok(Answer::Open);
+            return;
         };
         // A leaf is dealt once, so its seat is free.
         if let Some(mut guard) = slot.try_lock() {
             let seat = &mut *guard;
-            seat.run(number, self.given.as_slice(), self.conflicts);
+            seat.run(number, self.given.as_slice(), conflicts);
         }
+    }
+}
+
+impl<S: SharingLearner + Drop> CubeSolver for Round<S> {
+    fn solve(&self, _alloc: Global, cube: &[Lit], _budget: u64) -> Result<Answer, AllocError> {
+        // The budget of a cube is not asked: a seat goes by the conflicts of the round, and the answer, which is open, has no steps.
+        self.run_seat(leaf_of(cube), self.conflicts);
         Ok(Answer::Open)
     }
 

@@ -5,13 +5,14 @@ ghost use Rattle.cube_jobs.specs.Results.{AreLeaves};
 ghost use Rattle.cube_tree.specs.CubeTree.{cubes_of};
 ghost use Rattle.proof_log.specs.Answers.{IsWithin};
 
+use crate::beside::{ModelSearch, RoundBeside};
 use crate::leaves::leaves_of;
 use crate::seats::Seats;
 use cube_jobs::{Gate, OpenGate, SearchFault, SearchRun};
 use cube_queue::search;
 use cube_tree::Tree;
 use dimacs::ClauseList;
-use proof_log::{Answer, Attempt, SharingLearner};
+use proof_log::{Answer, Attempt, CubeSolver, SharingLearner};
 use std::alloc::{AllocError, Global};
 use std::sync::Wait;
 use std::thread::Threads;
@@ -20,29 +21,27 @@ use std::thread::Threads;
 /// took 119 thousand conflicts in rounds of 100, and 123 thousand in rounds of 50.
 const ROUND_CONFLICTS: u64 = 100;
 
-/// Runs a round: each of these leaves stands for a seat. Returns how many conflicts there were.
-fn run_round<R: Threads + Wait + Sync, L: ClauseList + Sync, S: SharingLearner + Drop + Send, G>(
+/// Runs a round: each of these leaves stands for a seat, whose job the solver does.
+fn run_round<R: Threads + Wait + Sync, L: ClauseList + Sync, S: CubeSolver + Sync, G>(
     run: &SearchRun<'_, R, G>,
     formula: &L,
     tree: &Tree,
     leaves: &[u32],
-    seats: &mut Seats<S>,
-    conflicts: u64,
-) -> Result<u64, SearchFault>
+    solver: &S,
+) -> Result<(), SearchFault>
     requires { AreLeaves (cubes_of tree.now) leaves.now }
 {
-    seats.begin_round(conflicts)?;
     let _results = search(
         run.alloc,
         run.rt,
         formula,
-        &seats.round,
+        solver,
         tree,
         leaves,
         run.options,
         &OpenGate,
     )?;
-    Ok(seats.additions())
+    Ok(())
 }
 
 /// Searches of one formula that go on in rounds, and the conflicts that they may still have.
@@ -66,13 +65,25 @@ impl<S: SharingLearner + Drop + Send> SeatSearch<S> {
         Ok(SeatSearch { seats, left })
     }
 
-    /// The conflicts that each seat may have in the next round, none if there is no further one. All seats are charged what they may use, also those
-    /// that wait, so the number of rounds does not depend on what they use.
-    fn charge_round(&mut self) -> u64 {
-        let count = self.seats.count().max(1);
-        let conflicts = ROUND_CONFLICTS.min(self.left / count);
+    /// The conflicts that each seat may have in the next round, of this many at most, none if they are used up. All these seats are charged what they may use,
+    /// also those that wait, so the number of rounds does not depend on what they use.
+    fn charge_round(&mut self, most: u64, seats: u64) -> u64 {
+        let count = seats.max(1);
+        let conflicts = most.min(self.left / count);
         self.left = self.left.saturating_sub(conflicts.saturating_mul(count));
         conflicts
+    }
+
+    /// Gives the gate the conflicts of the round that has ended, and returns its answer.
+    fn end_round<R, G: Gate>(
+        &mut self,
+        run: &SearchRun<'_, R, G>,
+        steps: u64,
+    ) -> Result<Option<Answer>, SearchFault>
+        ensures { IfOk result (λ found. IfSome found (λ answer. IsWithin steps answer)) }
+    {
+        run.gate.conflicts(self.seats.additions());
+        Ok(self.seats.answer(steps)?)
     }
 
     /// Goes on for at most this many rounds. The answer is that of the lowest search that has ended with one, or else of the lowest that is refuted without a
@@ -91,23 +102,48 @@ impl<S: SharingLearner + Drop + Send> SeatSearch<S> {
     {
         let leaves = leaves_of(run.alloc, tree)?;
         for _ in 0..rounds {
-            let conflicts = self.charge_round();
+            let conflicts = self.charge_round(ROUND_CONFLICTS, self.seats.count());
             if conflicts == 0 {
                 return Ok(Some(Answer::Open));
             }
-            let had = run_round(
-                run,
-                formula,
-                tree,
-                leaves.as_slice(),
-                &mut self.seats,
-                conflicts,
-            )?;
-            run.gate.conflicts(had);
-            if let Some(answer) = self.seats.answer(steps)? {
+            self.seats.begin_round(conflicts)?;
+            run_round(run, formula, tree, leaves.as_slice(), &self.seats.round)?;
+            if let Some(answer) = self.end_round(run, steps)? {
                 return Ok(Some(answer));
             }
         }
         Ok(None)
+    }
+
+    /// Goes on for a round in which the first seats have no conflicts: the job of each looks for a model in one of these ways. The others have the conflicts of this
+    /// many rounds, as long as they last. The answer is the model of the first way that has found one, or else that of the round, as in `go_on`.
+    pub fn look_beside<
+        R: Threads + Wait + Sync,
+        L: ClauseList + Sync,
+        M: ModelSearch + Sync,
+        G: Gate,
+    >(
+        &mut self,
+        run: &SearchRun<'_, R, G>,
+        formula: &L,
+        tree: &Tree,
+        models: &M,
+        rounds: u64,
+        steps: u64,
+    ) -> Result<Option<Answer>, SearchFault>
+        ensures { IfOk result (λ found. IfSome found (λ answer. IsWithin steps answer)) }
+    {
+        let leaves = leaves_of(run.alloc, tree)?;
+        let searching = self.seats.count().saturating_sub(models.ways() as u64);
+        let conflicts = self.charge_round(ROUND_CONFLICTS.saturating_mul(rounds), searching);
+        self.seats.begin_round(conflicts)?;
+        let mut beside = RoundBeside::new(run.alloc, &self.seats.round, models)?;
+        run_round(run, formula, tree, leaves.as_slice(), &beside)?;
+        let found = beside.model(run.alloc, leaves.len())?;
+        let answer = self.end_round(run, steps)?;
+        match found {
+            Some(model) => Ok(Some(Answer::Model(model))),
+            None => Ok(answer),
+        }
     }
 }

@@ -27,7 +27,7 @@ use reducer::expand::expand;
 use reducer::reduced::Reduced;
 use result_ledger::{Ledger, Verdict, inconsistent_has_no_model, unknown_holds_all_models};
 use schedule_decode::decode::schedule_of;
-use seat_rounds::SeatSearch;
+use seat_rounds::{ModelSearch, SeatSearch};
 use solver::{Answer, CubeSolver, PreparedFormula, ReadsFromTable, Search, SourceCounter};
 use state_model::{StateSearchKind, model_by_states};
 use std::alloc::{AllocError, Global};
@@ -122,18 +122,42 @@ struct KeptTrace<'a> {
     clauses: &'a TraceClauses,
 }
 
-/// The broad searches of states, each after some further rounds of the four searches. An easy trace is decided in fewer rounds. Of four traces that broad
-/// searches scheduled, the first one scheduled three.
-const BROAD_SEARCHES: [(u64, StateSearchKind); 2] = [
-    (8, StateSearchKind::Broad),
-    (16, StateSearchKind::Spendthrift),
-];
+/// The rounds of the four searches before the broad searches of states. An easy trace is decided in fewer.
+const ROUNDS_BEFORE_BROAD: u64 = 8;
 
-/// The rounds between the last of these and the patient search, which takes half a second: a fourth of what all rounds take up to then.
-const ROUNDS_BEFORE_PATIENT: u64 = 64;
+/// The broad searches of states. Of four traces that they scheduled, the first one scheduled three.
+const BROAD_SEARCHES: [StateSearchKind; 2] = [StateSearchKind::Broad, StateSearchKind::Spendthrift];
+
+/// The rounds whose conflicts the other two of the four have meanwhile: they take about as long.
+const ROUNDS_BESIDE_BROAD: u64 = 5;
+
+/// The rounds between these and the patient search, which takes half a second.
+const ROUNDS_BEFORE_PATIENT: u64 = 80;
+
+/// The rounds whose conflicts the other three have meanwhile.
+const ROUNDS_BESIDE_PATIENT: u64 = 10;
+
+/// Searches of states of these kinds, each in the job of one of the four searches.
+struct StateSearches<'a> {
+    kept: KeptTrace<'a>,
+    kinds: &'a [StateSearchKind],
+}
+
+impl ModelSearch for StateSearches<'_> {
+    fn ways(&self) -> usize {
+        self.kinds.len()
+    }
+
+    fn look(&self, alloc: Global, way: usize) -> Result<Option<Assignment>, AllocError> {
+        match self.kinds.get(way) {
+            Some(kind) => model_by_states(alloc, self.kept.trace, self.kept.clauses, *kind),
+            None => Ok(None),
+        }
+    }
+}
 
 /// Goes on where one search of the whole formula has stopped: a narrow search of the trace's states looks for a schedule, and then four searches go on until the
-/// budget is used up, between whose rounds broad searches of states look for one, and last a patient one.
+/// budget is used up. Meanwhile two broad searches of states look for a schedule, and later a patient one.
 fn search_on<'a, R: Threads + Wait + Sync, G: Gate>(
     run: &SearchRun<'_, R, G>,
     kept: KeptTrace<'_>,
@@ -148,22 +172,42 @@ fn search_on<'a, R: Threads + Wait + Sync, G: Gate>(
     }
     let tree = grow(alloc, clauses.layout(), SEATS_DEPTH)?;
     let mut seats = SeatSearch::new(alloc, prepared.begin_seats(alloc, first)?, budget)?;
-    for (rounds, kind) in &BROAD_SEARCHES {
-        match seats.go_on(run, clauses, &tree, *rounds, budget)? {
-            // If the conflicts are used up, a schedule is looked for nevertheless.
-            None | Some(Answer::Open) => (),
-            Some(answer) => return Ok(answer),
-        }
-        if let Some(model) = model_by_states(alloc, kept.trace, clauses, *kind)? {
-            return Ok(Answer::Model(model));
-        }
+    match seats.go_on(run, clauses, &tree, ROUNDS_BEFORE_BROAD, budget)? {
+        // If the conflicts are used up, a schedule is looked for nevertheless.
+        None | Some(Answer::Open) => (),
+        Some(answer) => return Ok(answer),
     }
-    // It is not made if the conflicts are used up before: a small budget asks for a soon answer.
+    let broad = StateSearches {
+        kept,
+        kinds: &BROAD_SEARCHES,
+    };
+    if let Some(answer) = seats.look_beside(
+        run,
+        clauses,
+        &tree,
+        &broad,
+        ROUNDS_BESIDE_BROAD,
+        budget,
+    )? {
+        return Ok(answer);
+    }
+    // The patient search is not made if the conflicts are used up before: a small budget asks for a soon answer.
     if let Some(answer) = seats.go_on(run, clauses, &tree, ROUNDS_BEFORE_PATIENT, budget)? {
         return Ok(answer);
     }
-    if let Some(model) = model_by_states(alloc, kept.trace, clauses, StateSearchKind::Patient)? {
-        return Ok(Answer::Model(model));
+    let patient = StateSearches {
+        kept,
+        kinds: &[StateSearchKind::Patient],
+    };
+    if let Some(answer) = seats.look_beside(
+        run,
+        clauses,
+        &tree,
+        &patient,
+        ROUNDS_BESIDE_PATIENT,
+        budget,
+    )? {
+        return Ok(answer);
     }
     // Each round takes a conflict off the budget at least, so there is no further round after as many.
     let answer = seats.go_on(run, clauses, &tree, budget, budget)?;
