@@ -2,7 +2,7 @@
 //! memory enough the test shows that the call succeeds; `tests/refused-memory` runs it with each request for memory refused in turn.
 
 use crate::expectations::{ample, expect};
-use crate::workers::seats::{FOUR_LEAVES, ONE_CLAUSE};
+use crate::workers::seats::{FOUR_LEAVES, ONE_CLAUSE, TwoWays, is_of_second_way};
 use crate::workers::talkers::{LATER, TalkEnd, talkers};
 use cnf_text::read_cnf;
 use cube_jobs::{OpenGate, Options, SearchRun};
@@ -48,12 +48,13 @@ fn tree_if_memory(alloc: Global) -> Result<Tree, AllocError> {
     }
 }
 
-/// What one worker finds, or nothing if the call says that there is no memory.
+/// What one worker finds, or nothing if the call says that there is no memory: in rounds, or in one in which two searches look for a model.
 fn found_once<R: Threads + Wait + Abort + Sync>(
     alloc: Global,
     rt: &R,
     formula: &Formula,
     tree: &Tree,
+    looks: bool,
 ) -> Result<Option<Answer>, AllocError> {
     let options = ample(rt, Options::new(1, 3, BUDGET, 1));
     let searches = talkers(alloc, &ONE_LIES)?;
@@ -64,7 +65,12 @@ fn found_once<R: Threads + Wait + Abort + Sync>(
         gate: &OpenGate,
     };
     let mut seats = SeatSearch::new(alloc, searches, BUDGET)?;
-    match seats.go_on(&run, formula, tree, BUDGET, BUDGET) {
+    let found = if looks {
+        seats.look_beside(&run, formula, tree, &TwoWays { finds: true }, 1, BUDGET)
+    } else {
+        seats.go_on(&run, formula, tree, BUDGET, BUDGET)
+    };
+    match found {
         Ok(answer) => Ok(answer),
         Err(fault) => {
             expect(rt, matches!(fault, PlainFault::OutOfMemory), 0);
@@ -87,7 +93,7 @@ fn length_of(rt: &impl Abort, answer: &Option<Answer>) -> usize {
 fn a_round_without_memory_gives_no_other_answer(rt: HostRuntime) -> Result<(), Fail> {
     let formula = formula_if_memory(rt.alloc())?;
     let tree = tree_if_memory(rt.alloc())?;
-    let found = found_once(rt.alloc(), &rt, &formula, &tree)?;
+    let found = found_once(rt.alloc(), &rt, &formula, &tree, false)?;
     let length = length_of(&rt, &found);
     if length == NEEDED {
         return Ok(());
@@ -97,8 +103,22 @@ fn a_round_without_memory_gives_no_other_answer(rt: HostRuntime) -> Result<(), F
         length == 0 || (LEAST <= length && length <= MOST),
         length,
     );
-    let again = found_once(rt.alloc(), &rt, &formula, &tree)?;
+    let again = found_once(rt.alloc(), &rt, &formula, &tree, false)?;
     let length = length_of(&rt, &again);
     expect(&rt, length == NEEDED, length);
+    Ok(())
+}
+
+#[test]
+fn a_look_without_memory_finds_no_other_model(rt: HostRuntime) -> Result<(), Fail> {
+    let formula = formula_if_memory(rt.alloc())?;
+    let tree = tree_if_memory(rt.alloc())?;
+    let found = found_once(rt.alloc(), &rt, &formula, &tree, true)?;
+    if is_of_second_way(&found) {
+        return Ok(());
+    }
+    expect(&rt, found.is_none(), 0);
+    let again = found_once(rt.alloc(), &rt, &formula, &tree, true)?;
+    expect(&rt, is_of_second_way(&again), 0);
     Ok(())
 }

@@ -4,13 +4,13 @@
 use crate::workers::searches::{formula_of, tree_of};
 use crate::workers::talkers::{LATER, TalkEnd, talkers};
 use cube_jobs::{OpenGate, Options, SearchRun};
-use dimacs::Formula;
+use dimacs::{Assignment, Formula};
 use lrat_check::checker::check;
 use lrat_check::derivation::{Derivation, Step};
 use lrat_check::derivation_copies::are_same;
 use proof_log::Answer;
-use seat_rounds::SeatSearch;
-use std::alloc::Global;
+use seat_rounds::{ModelSearch, SeatSearch};
+use std::alloc::{AllocError, Global};
 use std::process::Abort;
 use std::sync::Wait;
 use std::thread::Threads;
@@ -20,6 +20,9 @@ pub const ONE_CLAUSE: &str = "p cnf 2 1\n1 2 0\n";
 
 /// A leaf for each of four searches.
 pub const FOUR_LEAVES: &[u8] = b"split 1\nsplit 2\nleaf\nleaf\nsplit 2\nleaf\nleaf\n";
+
+/// A leaf for the first search alone.
+const ONE_LEAF: &[u8] = b"leaf\n";
 
 /// Conflicts of all four together: they are enough for six rounds of 100 each.
 const BUDGET: u64 = 2400;
@@ -183,4 +186,95 @@ fn searches_without_memory_leave_the_formula_open(rt: HostRuntime) {
         let answer = answer_by(alloc, &rt, &formula, &NONE_WITH_MEMORY, *workers);
         assert!(&rt; matches!(answer, Answer::Open), "{workers} workers");
     }
+}
+
+/// Two ways to look for a model of `ONE_CLAUSE`. The first finds none, and the second, if it is to find one, that in which the second variable alone is true.
+pub struct TwoWays {
+    pub finds: bool,
+}
+
+impl ModelSearch for TwoWays {
+    fn ways(&self) -> usize {
+        2
+    }
+
+    fn look(&self, alloc: Global, way: usize) -> Result<Option<Assignment>, AllocError> {
+        if way == 0 || !self.finds {
+            return Ok(None);
+        }
+        let mut values = Vec::with_capacity(alloc, 2)?;
+        values.push(false)?;
+        values.push(true)?;
+        Ok(Some(Assignment::new(values)))
+    }
+}
+
+/// Returns whether this is the model of the second way.
+pub fn is_of_second_way(answer: &Option<Answer>) -> bool {
+    match answer {
+        Some(Answer::Model(model)) => !model.value(1) && model.value(2),
+        _ => false,
+    }
+}
+
+/// The answer of a round of four searches, of which the second and the third are to lie, while the first two look for a model in two ways. The leaves of the
+/// tree stand for the searches. All together have this budget, and each that goes on has the conflicts of five rounds.
+fn answer_beside<R: Threads + Wait + Abort + Sync>(
+    rt: &R,
+    alloc: Global,
+    finds: bool,
+    leaves: &[u8],
+    workers: u32,
+    budget: u64,
+) -> Option<Answer> {
+    let formula = formula_of(rt, alloc, ONE_CLAUSE);
+    let tree = tree_of(rt, alloc, leaves);
+    let Ok(options) = Options::new(workers, 3, BUDGET, 1) else {
+        panic!(rt; "an option is out of its range")
+    };
+    let Ok(searches) = talkers(alloc, &TWO_LIE) else {
+        panic!(rt; "out of memory")
+    };
+    let run = SearchRun {
+        alloc,
+        rt,
+        options: &options,
+        gate: &OpenGate,
+    };
+    let Ok(mut seats) = SeatSearch::new(alloc, searches, budget) else {
+        panic!(rt; "out of memory")
+    };
+    match seats.look_beside(&run, &formula, &tree, &TwoWays { finds }, 5, BUDGET) {
+        Ok(answer) => answer,
+        Err(_) => panic!(rt; "there is no memory, or no thread"),
+    }
+}
+
+// The third search lies in this round too, but the model comes first. Without conflicts a model is looked for nevertheless, and so it is in a way
+// whose search has no leaf.
+#[test]
+fn a_model_is_found_beside_the_searches(rt: HostRuntime) {
+    for workers in &[1_u32, 2, 4, 8] {
+        for budget in &[BUDGET, 0] {
+            let answer = answer_beside(&rt, rt.alloc(), true, FOUR_LEAVES, *workers, *budget);
+            assert!(&rt; is_of_second_way(&answer), "{workers} workers");
+        }
+    }
+    let answer = answer_beside(&rt, rt.alloc(), true, ONE_LEAF, 4, BUDGET);
+    assert!(&rt; is_of_second_way(&answer));
+}
+
+// The second search waits: else it would have lied with its 475th addition, and come before the third, which lies with its 450th.
+#[test]
+fn searches_go_on_beside_those_that_look_for_a_model(rt: HostRuntime) {
+    for workers in &[1_u32, 2, 4, 8] {
+        match answer_beside(&rt, rt.alloc(), false, FOUR_LEAVES, *workers, BUDGET) {
+            Some(Answer::Refuted(derivation)) => {
+                assert!(&rt; derivation.steps().len() == 450, "{workers} workers");
+            }
+            _ => panic!(&rt; "there is no derivation"),
+        }
+    }
+    let answer = answer_beside(&rt, rt.alloc(), false, FOUR_LEAVES, 4, 0);
+    assert!(&rt; answer.is_none());
 }
