@@ -17,24 +17,20 @@ use crate::decision::Decision;
 use crate::guide::{guide_to_order, reads_from_table};
 use crate::refutation::Refutation;
 use crate::rounds::search_in_rounds;
+use crate::whole_search::{KeptTrace, search_on};
 use clause_blocks::trace_clauses::TraceClauses;
 use cube_jobs::{Gate, Options, SearchFault, SearchRun};
-use cube_tree::grow;
 use dimacs::{Assignment, ClauseList, Cube};
 use plain_lists::PlainList;
-use proof_log::Attempt;
 use reducer::expand::expand;
 use reducer::reduced::Reduced;
 use result_ledger::{Ledger, Verdict, inconsistent_has_no_model, unknown_holds_all_models};
 use schedule_decode::decode::schedule_of;
-use seat_rounds::{ModelSearch, SeatSearch};
-use solver::{Answer, CubeSolver, PreparedFormula, ReadsFromTable, Search, SourceCounter};
-use state_model::{StateSearchKind, model_by_states};
+use solver::{CubeSolver, PreparedFormula, ReadsFromTable, SourceCounter};
 use std::alloc::{AllocError, Global};
 use std::sync::Wait;
 use std::thread::Threads;
 use trace_semantics::schedule::Schedule;
-use trace_semantics::trace::Trace;
 
 /// The schedule of the whole trace in which a model puts the kept operations. It is legal. The model is not tried again.
 ///
@@ -109,109 +105,6 @@ fn decision_of(
             Ok(Decision::Unknown(cubes))
         }
     }
-}
-
-/// The depth of a full tree with a leaf for each of the four searches that share what they learn, which `begin_seats` gives. If the trace has fewer
-/// split variables, the tree has fewer leaves, and the searches without a leaf wait.
-const SEATS_DEPTH: u32 = 2;
-
-/// The trace that is searched, and its clauses.
-#[derive(Clone, Copy)]
-struct KeptTrace<'a> {
-    trace: &'a Trace,
-    clauses: &'a TraceClauses,
-}
-
-/// The rounds of the four searches before the broad searches of states. An easy trace is decided in fewer.
-const ROUNDS_BEFORE_BROAD: u64 = 8;
-
-/// The broad searches of states. Of four traces that they scheduled, the first one scheduled three.
-const BROAD_SEARCHES: [StateSearchKind; 2] = [StateSearchKind::Broad, StateSearchKind::Spendthrift];
-
-/// The rounds whose conflicts the other two of the four have meanwhile: they take about as long.
-const ROUNDS_BESIDE_BROAD: u64 = 5;
-
-/// The rounds between these and the patient search, which takes half a second.
-const ROUNDS_BEFORE_PATIENT: u64 = 80;
-
-/// The rounds whose conflicts the other three have meanwhile.
-const ROUNDS_BESIDE_PATIENT: u64 = 10;
-
-/// Searches of states of these kinds, each in the job of one of the four searches.
-struct StateSearches<'a> {
-    kept: KeptTrace<'a>,
-    kinds: &'a [StateSearchKind],
-}
-
-impl ModelSearch for StateSearches<'_> {
-    fn ways(&self) -> usize {
-        self.kinds.len()
-    }
-
-    fn look(&self, alloc: Global, way: usize) -> Result<Option<Assignment>, AllocError> {
-        match self.kinds.get(way) {
-            Some(kind) => model_by_states(alloc, self.kept.trace, self.kept.clauses, *kind),
-            None => Ok(None),
-        }
-    }
-}
-
-/// Goes on where one search of the whole formula has stopped: a narrow search of the trace's states looks for a schedule, and then four searches go on until the
-/// budget is used up. Meanwhile two broad searches of states look for a schedule, and later a patient one.
-fn search_on<'a, R: Threads + Wait + Sync, G: Gate>(
-    run: &SearchRun<'_, R, G>,
-    kept: KeptTrace<'_>,
-    prepared: &PreparedFormula<'a>,
-    first: Attempt<Search<'a>>,
-) -> Result<Answer, SearchFault> {
-    let alloc = run.alloc;
-    let clauses = kept.clauses;
-    let budget = run.options.budget();
-    if let Some(model) = model_by_states(alloc, kept.trace, clauses, StateSearchKind::Narrow)? {
-        return Ok(Answer::Model(model));
-    }
-    let tree = grow(alloc, clauses.layout(), SEATS_DEPTH)?;
-    let mut seats = SeatSearch::new(alloc, prepared.begin_seats(alloc, first)?, budget)?;
-    match seats.go_on(run, clauses, &tree, ROUNDS_BEFORE_BROAD, budget)? {
-        // If the conflicts are used up, a schedule is looked for nevertheless.
-        None | Some(Answer::Open) => (),
-        Some(answer) => return Ok(answer),
-    }
-    let broad = StateSearches {
-        kept,
-        kinds: &BROAD_SEARCHES,
-    };
-    if let Some(answer) = seats.look_beside(
-        run,
-        clauses,
-        &tree,
-        &broad,
-        ROUNDS_BESIDE_BROAD,
-        budget,
-    )? {
-        return Ok(answer);
-    }
-    // The patient search is not made if the conflicts are used up before: a small budget asks for a soon answer.
-    if let Some(answer) = seats.go_on(run, clauses, &tree, ROUNDS_BEFORE_PATIENT, budget)? {
-        return Ok(answer);
-    }
-    let patient = StateSearches {
-        kept,
-        kinds: &[StateSearchKind::Patient],
-    };
-    if let Some(answer) = seats.look_beside(
-        run,
-        clauses,
-        &tree,
-        &patient,
-        ROUNDS_BESIDE_PATIENT,
-        budget,
-    )? {
-        return Ok(answer);
-    }
-    // Each round takes a conflict off the budget at least, so there is no further round after as many.
-    let answer = seats.go_on(run, clauses, &tree, budget, budget)?;
-    Ok(answer.unwrap_or(Answer::Open))
 }
 
 /// Searches the whole formula before its cubes: what is found there answers for all of them.

@@ -12,6 +12,7 @@ mod refutation;
 mod reporting;
 mod rounds;
 mod splitting;
+mod whole_search;
 
 pub use certifying::write_certificate;
 pub use deciding::decide;
