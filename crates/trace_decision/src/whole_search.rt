@@ -40,6 +40,7 @@ pub(crate) struct KeptTrace<'a> {
 }
 
 /// Searches of the trace's states of these kinds.
+#[derive(Clone, Copy)]
 struct StateSearches<'a> {
     kept: KeptTrace<'a>,
     kinds: &'a [StateSearchKind],

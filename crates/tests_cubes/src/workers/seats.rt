@@ -189,6 +189,7 @@ fn searches_without_memory_leave_the_formula_open(rt: HostRuntime) {
 }
 
 /// Two ways to look for a model of `ONE_CLAUSE`. The first finds none, and the second, if it is to find one, that in which the second variable alone is true.
+#[derive(Clone, Copy)]
 pub struct TwoWays {
     pub finds: bool,
 }
