@@ -274,9 +274,9 @@ impl<S: SharingLearner + Send> SeatSearch<S> {
     }
 
     /// Does what `SeatSearch::look_beside` does.
-    fn look_beside<M: ModelSearch + Sync>(&mut self, models: &M, rounds: u64, report: &mut Report) -> Option<Answer> {
+    fn look_beside<M: ModelSearch + Sync>(&mut self, models: M, report: &mut Report) -> Option<Answer> {
         let count = report.seats.len();
-        self.begin_round(setting!("ROUND_CONFLICTS", u64, 100) * rounds, (count - models.ways()) as u64);
+        self.begin_round(setting!("ROUND_CONFLICTS", u64, 100) * models.rounds(), (count - models.ways()) as u64);
         let mut beside = RoundBeside::new(Global, &self.seats.round, models).expect("memory");
         report.longest += run_round(&beside, count);
         let found = beside.model(Global, count).expect("memory");
@@ -296,11 +296,16 @@ struct StateSearches<'a> {
     reduced: &'a Reduced,
     clauses: &'a TraceClauses,
     kinds: &'a [StateSearchKind],
+    rounds: u64,
 }
 
 impl ModelSearch for StateSearches<'_> {
     fn ways(&self) -> usize {
         self.kinds.len()
+    }
+
+    fn rounds(&self) -> u64 {
+        self.rounds
     }
 
     fn look(&self, alloc: Global, way: usize) -> Result<Option<Assignment>, shim::AllocError> {
@@ -338,16 +343,18 @@ fn search_on<'a>(
     if let Some(answer) = found.filter(|answer| !matches!(answer, Answer::Open)) {
         return answer;
     }
-    let broad = StateSearches { reduced, clauses, kinds: &[StateSearchKind::Broad, StateSearchKind::Spendthrift] };
-    let found = seats.look_beside(&broad, setting!("BESIDE_BROAD", u64, 5), report);
+    let rounds = setting!("BESIDE_BROAD", u64, 5);
+    let broad = StateSearches { reduced, clauses, kinds: &[StateSearchKind::Broad, StateSearchKind::Spendthrift], rounds };
+    let found = seats.look_beside(broad, report);
     report.end("broad");
     let found = found.or_else(|| seats.go_on(setting!("LAST_ROUNDS", u64, 80), report));
     report.end("last");
     if let Some(answer) = found {
         return answer;
     }
-    let patient = StateSearches { reduced, clauses, kinds: &[StateSearchKind::Patient] };
-    let found = seats.look_beside(&patient, setting!("BESIDE_PATIENT", u64, 10), report);
+    let rounds = setting!("BESIDE_PATIENT", u64, 10);
+    let patient = StateSearches { reduced, clauses, kinds: &[StateSearchKind::Patient], rounds };
+    let found = seats.look_beside(patient, report);
     report.end("patient");
     let answer = found.or_else(|| seats.go_on(budget, report));
     report.end("seats");

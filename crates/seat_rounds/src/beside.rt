@@ -11,6 +11,9 @@ pub trait ModelSearch {
     /// The number of ways.
     fn ways(&self) -> usize;
 
+    /// The number of rounds whose conflicts a seat has in about the time of a look.
+    fn rounds(&self) -> u64;
+
     /// Looks for a model in the way of this number, from 0.
     fn look(&self, alloc: Global, way: usize) -> Result<Option<Assignment>, AllocError>;
 }
@@ -19,16 +22,16 @@ pub trait ModelSearch {
 #[derive(Drop)]
 pub(crate) struct RoundBeside<'a, S, M> {
     round: &'a Round<S>,
-    models: &'a M,
+    models: M,
     /// What was found, by the number of the way.
     found: Vec<Mutex<Option<Assignment>>>,
 }
 
-impl<'a, S: SharingLearner + Drop, M: ModelSearch> RoundBeside<'a, S, M> {
+impl<'a, S: SharingLearner + Drop, M: ModelSearch + Drop> RoundBeside<'a, S, M> {
     pub(crate) fn new(
         alloc: Global,
         round: &'a Round<S>,
-        models: &'a M,
+        models: M,
     ) -> Result<RoundBeside<'a, S, M>, AllocError> {
         let mut found = Vec::new(alloc);
         for _ in 0..models.ways() {
@@ -63,7 +66,7 @@ impl<'a, S: SharingLearner + Drop, M: ModelSearch> RoundBeside<'a, S, M> {
     }
 }
 
-impl<S: SharingLearner + Drop, M: ModelSearch> CubeSolver for RoundBeside<'_, S, M> {
+impl<S: SharingLearner + Drop, M: ModelSearch + Drop> CubeSolver for RoundBeside<'_, S, M> {
     fn solve(&self, alloc: Global, cube: &[Lit], budget: u64) -> Result<Answer, AllocError> {
         let way = leaf_of(cube);
         let Some(slot) = self.found.get(way) else {

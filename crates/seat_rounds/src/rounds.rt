@@ -11,8 +11,8 @@ use crate::seats::Seats;
 use cube_jobs::{Gate, OpenGate, SearchFault, SearchRun};
 use cube_queue::search;
 use cube_tree::Tree;
-use dimacs::ClauseList;
-use proof_log::{Answer, Attempt, CubeSolver, SharingLearner};
+use dimacs::{Assignment, ClauseList};
+use proof_log::{Answer, Attempt, SharingLearner};
 use std::alloc::{AllocError, Global};
 use std::sync::Wait;
 use std::thread::Threads;
@@ -21,27 +21,61 @@ use std::thread::Threads;
 /// took 119 thousand conflicts in rounds of 100, and 123 thousand in rounds of 50.
 const ROUND_CONFLICTS: u64 = 100;
 
-/// Runs a round: each of these leaves stands for a seat, whose job the solver does.
-fn run_round<R: Threads + Wait + Sync, L: ClauseList + Sync, S: CubeSolver + Sync, G>(
+/// Runs a round: each of these leaves stands for a seat. Returns how many conflicts there were.
+fn run_round<R: Threads + Wait + Sync, L: ClauseList + Sync, S: SharingLearner + Drop + Send, G>(
     run: &SearchRun<'_, R, G>,
     formula: &L,
     tree: &Tree,
     leaves: &[u32],
-    solver: &S,
-) -> Result<(), SearchFault>
+    seats: &mut Seats<S>,
+    conflicts: u64,
+) -> Result<u64, SearchFault>
     requires { AreLeaves (cubes_of tree.now) leaves.now }
 {
+    seats.begin_round(conflicts)?;
     let _results = search(
         run.alloc,
         run.rt,
         formula,
-        solver,
+        &seats.round,
         tree,
         leaves,
         run.options,
         &OpenGate,
     )?;
-    Ok(())
+    Ok(seats.additions())
+}
+
+/// Runs a round in which the jobs of the first seats look for a model in these ways. Returns the model of the first way that has found one.
+fn look_in_round<
+    R: Threads + Wait + Sync,
+    L: ClauseList + Sync,
+    S: SharingLearner + Drop + Send,
+    M: ModelSearch + Drop + Sync,
+    G,
+>(
+    run: &SearchRun<'_, R, G>,
+    formula: &L,
+    tree: &Tree,
+    seats: &mut Seats<S>,
+    models: M,
+    conflicts: u64,
+) -> Result<Option<Assignment>, SearchFault> {
+    let leaves = leaves_of(run.alloc, tree)?;
+    seats.begin_round(conflicts)?;
+    let mut beside = RoundBeside::new(run.alloc, &seats.round, models)?;
+    let _results = search(
+        run.alloc,
+        run.rt,
+        formula,
+        &beside,
+        tree,
+        leaves.as_slice(),
+        run.options,
+        &OpenGate,
+    )?;
+    let found = beside.model(run.alloc, leaves.len())?;
+    Ok(found)
 }
 
 /// Searches of one formula that go on in rounds, and the conflicts that they may still have.
@@ -74,18 +108,6 @@ impl<S: SharingLearner + Drop + Send> SeatSearch<S> {
         conflicts
     }
 
-    /// Gives the gate the conflicts of the round that has ended, and returns its answer.
-    fn end_round<R, G: Gate>(
-        &mut self,
-        run: &SearchRun<'_, R, G>,
-        steps: u64,
-    ) -> Result<Option<Answer>, SearchFault>
-        ensures { IfOk result (λ found. IfSome found (λ answer. IsWithin steps answer)) }
-    {
-        run.gate.conflicts(self.seats.additions());
-        Ok(self.seats.answer(steps)?)
-    }
-
     /// Goes on for at most this many rounds. The answer is that of the lowest search that has ended with one, or else of the lowest that is refuted without a
     /// further conflict, or `Open` if all together have had their conflicts; there is none yet if the rounds are over before. After each round the searches exchange what they have learned. One whose number is not that of a
     /// leaf of the tree waits. Each round is searched by the workers of the options, and the gate gets its conflicts. A derivation has at most `steps`
@@ -101,49 +123,53 @@ impl<S: SharingLearner + Drop + Send> SeatSearch<S> {
         ensures { IfOk result (λ found. IfSome found (λ answer. IsWithin steps answer)) }
     {
         let leaves = leaves_of(run.alloc, tree)?;
+        let count = self.seats.count();
         for _ in 0..rounds {
-            let conflicts = self.charge_round(ROUND_CONFLICTS, self.seats.count());
+            let conflicts = self.charge_round(ROUND_CONFLICTS, count);
             if conflicts == 0 {
                 return Ok(Some(Answer::Open));
             }
-            self.seats.begin_round(conflicts)?;
-            run_round(run, formula, tree, leaves.as_slice(), &self.seats.round)?;
-            if let Some(answer) = self.end_round(run, steps)? {
+            let had = run_round(
+                run,
+                formula,
+                tree,
+                leaves.as_slice(),
+                &mut self.seats,
+                conflicts,
+            )?;
+            run.gate.conflicts(had);
+            if let Some(answer) = self.seats.answer(steps)? {
                 return Ok(Some(answer));
             }
         }
         Ok(None)
     }
 
-    /// Goes on for a round in which the first seats have no conflicts: the job of each looks for a model in one of these ways. The others have the conflicts of this
-    /// many rounds, as long as they last. The answer is the model of the first way that has found one, or else that of the round, as in `go_on`.
+    /// Goes on for a round in which the first seats have no conflicts: the job of each looks for a model in one of these ways. The others have the conflicts of as
+    /// many rounds as a look takes, as long as they last. The answer is the model of the first way that has found one, or else that of the round, as in `go_on`.
     pub fn look_beside<
         R: Threads + Wait + Sync,
         L: ClauseList + Sync,
-        M: ModelSearch + Sync,
+        M: ModelSearch + Drop + Sync,
         G: Gate,
     >(
         &mut self,
         run: &SearchRun<'_, R, G>,
         formula: &L,
         tree: &Tree,
-        models: &M,
-        rounds: u64,
+        models: M,
         steps: u64,
     ) -> Result<Option<Answer>, SearchFault>
         ensures { IfOk result (λ found. IfSome found (λ answer. IsWithin steps answer)) }
     {
-        let leaves = leaves_of(run.alloc, tree)?;
         let searching = self.seats.count().saturating_sub(models.ways() as u64);
-        let conflicts = self.charge_round(ROUND_CONFLICTS.saturating_mul(rounds), searching);
-        self.seats.begin_round(conflicts)?;
-        let mut beside = RoundBeside::new(run.alloc, &self.seats.round, models)?;
-        run_round(run, formula, tree, leaves.as_slice(), &beside)?;
-        let found = beside.model(run.alloc, leaves.len())?;
-        let answer = self.end_round(run, steps)?;
-        match found {
-            Some(model) => Ok(Some(Answer::Model(model))),
-            None => Ok(answer),
+        let most = ROUND_CONFLICTS.saturating_mul(models.rounds());
+        let conflicts = self.charge_round(most, searching);
+        let found = look_in_round(run, formula, tree, &mut self.seats, models, conflicts)?;
+        run.gate.conflicts(self.seats.additions());
+        if let Some(model) = found {
+            return Ok(Some(Answer::Model(model)));
         }
+        Ok(self.seats.answer(steps)?)
     }
 }

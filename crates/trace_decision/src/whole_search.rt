@@ -44,11 +44,17 @@ pub(crate) struct KeptTrace<'a> {
 struct StateSearches<'a> {
     kept: KeptTrace<'a>,
     kinds: &'a [StateSearchKind],
+    /// The rounds whose conflicts one of the four has in about the time of such a search.
+    rounds: u64,
 }
 
 impl ModelSearch for StateSearches<'_> {
     fn ways(&self) -> usize {
         self.kinds.len()
+    }
+
+    fn rounds(&self) -> u64 {
+        self.rounds
     }
 
     fn look(&self, alloc: Global, way: usize) -> Result<Option<Assignment>, AllocError> {
@@ -86,15 +92,10 @@ impl<'r, 'a, R: Threads + Wait + Sync, G: Gate> WholeSearch<'r, 'a, R, G> {
         let states = StateSearches {
             kept: self.kept,
             kinds,
-        };
-        self.seats.look_beside(
-            self.run,
-            self.kept.clauses,
-            &self.tree,
-            &states,
             rounds,
-            budget,
-        )
+        };
+        self.seats
+            .look_beside(self.run, self.kept.clauses, &self.tree, states, budget)
     }
 }
 

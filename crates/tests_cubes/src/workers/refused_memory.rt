@@ -66,7 +66,7 @@ fn found_once<R: Threads + Wait + Abort + Sync>(
     };
     let mut seats = SeatSearch::new(alloc, searches, BUDGET)?;
     let found = if looks {
-        seats.look_beside(&run, formula, tree, &TwoWays { finds: true }, 1, BUDGET)
+        seats.look_beside(&run, formula, tree, TwoWays { finds: true }, BUDGET)
     } else {
         seats.go_on(&run, formula, tree, BUDGET, BUDGET)
     };

@@ -199,6 +199,10 @@ impl ModelSearch for TwoWays {
         2
     }
 
+    fn rounds(&self) -> u64 {
+        5
+    }
+
     fn look(&self, alloc: Global, way: usize) -> Result<Option<Assignment>, AllocError> {
         if way == 0 || !self.finds {
             return Ok(None);
@@ -245,7 +249,7 @@ fn answer_beside<R: Threads + Wait + Abort + Sync>(
     let Ok(mut seats) = SeatSearch::new(alloc, searches, budget) else {
         panic!(rt; "out of memory")
     };
-    match seats.look_beside(&run, &formula, &tree, &TwoWays { finds }, 5, BUDGET) {
+    match seats.look_beside(&run, &formula, &tree, TwoWays { finds }, BUDGET) {
         Ok(answer) => answer,
         Err(_) => panic!(rt; "there is no memory, or no thread"),
     }
