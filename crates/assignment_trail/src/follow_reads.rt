@@ -203,7 +203,7 @@ impl<'a> OrderedTrail<'a> {
                     break;
                 };
                 let literal = self.before(choice.reader, writer);
-                let choice = Variable::new(choice.variable);
+                let choice = choice.variable;
                 self.imply(reads_from, literal, Because { choice, writer })?;
             }
         }
@@ -219,7 +219,7 @@ impl<'a> OrderedTrail<'a> {
     ) -> Result<(), ReasonClause> {
         let reader = choice.reader;
         let literal = self.before(chosen, reader);
-        let choice = Variable::new(choice.variable);
+        let choice = choice.variable;
         let writer = chosen;
         self.imply(reads_from, literal, Because { choice, writer })?;
         for number in 0..reads_from.writers().words() {

@@ -126,7 +126,7 @@ impl<'a> OrderedTrail<'a> {
             Reason::Clause { id, first, second } => ReasonClause::of_literals(
                 id, first, second, NEVER,
             ),
-            Reason::Stored { place } => store.reason(place),
+            Reason::Stored { clause } => store.reason(clause),
             Reason::Choice { choice, writer } => match self.reads_from {
                 Some(reads_from) => self.clause_of_choice(reads_from, choice, writer),
                 None => ReasonClause::none(),

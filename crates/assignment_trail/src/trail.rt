@@ -1,7 +1,7 @@
 //! The trail: true literals in the order of their assignment.
 
 use crate::drawing::drawn;
-use clause_database::Reason;
+use clause_database::{Reason, StoredClause};
 use proof_log::codes::{ALWAYS, LiteralCode, NEVER, Variable};
 use std::alloc::{AllocError, Global};
 use total_tables::{at, put, size};
@@ -135,10 +135,10 @@ impl Trail {
         at(self.states.as_slice(), variable.number(), nothing)
     }
 
-    /// Redirects the reason of the variable to this offset, after the arena was compacted.
-    pub fn move_cause(&mut self, variable: Variable, place: u32) {
+    /// Redirects the reason of the variable to this clause, after the store was compacted.
+    pub fn move_cause(&mut self, variable: Variable, clause: StoredClause) {
         let mut state = self.state(variable);
-        state.reason = Reason::Stored { place };
+        state.reason = Reason::Stored { clause };
         put(self.states.as_mut_slice(), variable.number(), state);
     }
 

@@ -37,13 +37,13 @@ impl<'a> EncodingHints<'a> {
 
     /// Hints that the formula has the transitivity clauses of an order of this many events, from this id on, counted from 1. Returns no
     /// hints unless there are 3 to 192 events: sets of bits have room for 192, and below 3 there are no such clauses.
-    pub fn with_order(elements: u32, first: u32) -> EncodingHints<'a> {
+    pub fn with_order(elements: u32, first: ClauseId) -> EncodingHints<'a> {
         if elements < 3 || elements > MAX_ELEMENTS {
             return EncodingHints::none();
         }
         EncodingHints {
             elements,
-            first: ClauseId::new(first),
+            first,
             reads_from: None,
         }
     }

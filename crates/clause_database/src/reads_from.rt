@@ -1,6 +1,6 @@
 //! Hints about the reads-from variables of an encoding.
 
-use order_sets::{Element, ElementSets, MAX_ELEMENTS};
+use order_sets::{ChoiceClauses, Element, ElementSets, MAX_ELEMENTS};
 use proof_log::ClauseId;
 use proof_log::codes::Variable;
 use std::alloc::{AllocError, Global};
@@ -13,37 +13,34 @@ const MAX_VARIABLES: u32 = 1 << 16;
 /// A reads-from variable: if it is true, the reader reads from this writer.
 #[derive(Clone, Copy)]
 pub struct ReadsFromVariable {
-    pub variable: u32,
+    pub variable: Variable,
     /// The element that reads.
     pub reader: Element,
     /// The writer, or none for the initial value.
     pub writer: Option<Element>,
-    /// The number of the first of its clauses, counted from 1.
-    pub first: u32,
+    /// The first of its clauses.
+    pub first: ClauseId,
 }
 
 /// A writer that may be the last one of its location, if the final value is known.
 #[derive(Clone, Copy)]
 pub struct LastWriter {
     /// The variable which says that it is the last one.
-    pub variable: u32,
+    pub variable: Variable,
     pub writer: Element,
-    /// The number of the clause that says that one of the location's last writers is the last one, counted from 1.
-    pub clause: u32,
-    /// The number of the first of its own clauses.
-    pub first: u32,
+    /// The clause that says that one of the location's last writers is the last one.
+    pub clause: ClauseId,
+    /// The first of its own clauses.
+    pub first: ClauseId,
 }
 
 /// Hints of a caller of `solve` about the reads of an order: which elements write where others read, and which clauses say what a choice
-/// means. With y of `EncodingHints`, let x(i,j) be `y(i,j)` for i below j, and `-y(j,i)` otherwise.
+/// means. `ChoiceClauses` has their order. With y of `EncodingHints`, x(i,j) is there `y(i,j)` for i below j, and `-y(j,i)` otherwise.
 ///
-/// A choice with the variable s and without a writer has the clauses `-s x(r,q)`, for all writers q of the reader r that it
-/// knows. One with the writer w has the clause `-s x(w,r)`, and then `-s x(q,w) x(r,q)` for all these q other than w. All go by
-/// rising q and stand one after the other. The clause which says that one of a reader's choices is made stands before those of its
-/// first choice.
+/// The clauses of a choice are those against all writers of its reader that are known here. The clause which says that one of a reader's choices is
+/// made stands before those of its first choice.
 ///
-/// A last writer w with the variable f has the clauses `-f x(q,w)` for all other writers q of its location, by rising q. These are read as
-/// any clauses are; the count of sources cites them by their numbers.
+/// The clauses of a last writer are those of a final value. They are read as any clauses are; the count of sources cites them by their numbers.
 ///
 /// Untrusted too: an error here can only slow the search down (see `EncodingHints`).
 pub struct ReadsFromTable {
@@ -116,8 +113,7 @@ impl ReadsFromTable {
     /// Adds a choice. They are added by rising variables; others, and those that are not of two elements of the order, are left to their
     /// clauses.
     pub fn add_choice(&mut self, choice: ReadsFromVariable) -> Result<(), AllocError> {
-        let variable = Variable::new(choice.variable);
-        let place = self.place_of_variable(variable);
+        let place = self.place_of_variable(choice.variable);
         let reader = choice.reader.number();
         let column = match choice.writer {
             Some(writer) => writer.number(),
@@ -136,9 +132,9 @@ impl ReadsFromTable {
         }
         self.choices.push(Some(choice))?;
         let place = self.place_of(choice.reader, column);
-        put(self.variables.as_mut_slice(), place, variable);
+        put(self.variables.as_mut_slice(), place, choice.variable);
         if column == self.elements {
-            put(self.without_writer.as_mut_slice(), reader, variable);
+            put(self.without_writer.as_mut_slice(), reader, choice.variable);
         }
         put(self.reading.as_mut_slice(), reader, 1);
         Ok(())
@@ -178,6 +174,22 @@ impl ReadsFromTable {
     /// Returns the last writers, those of one location one after the other.
     pub fn last_writers(&self) -> &[LastWriter] {
         self.last_writers.as_slice()
+    }
+
+    /// Returns whether the last writer at this place is the first one of its location. Those of one location have the same clause.
+    pub fn begins_location(&self, place: u32) -> bool {
+        self.clause_of_last(place) != self.clause_of_last(place.wrapping_sub(1))
+    }
+
+    /// Returns the clause of the last writer at this place, or none past the end.
+    fn clause_of_last(&self, place: u32) -> ClauseId {
+        let nobody = LastWriter {
+            variable: Variable::NONE,
+            writer: Element::NONE,
+            clause: ClauseId::NONE,
+            first: ClauseId::NONE,
+        };
+        at(self.last_writers.as_slice(), place, nobody).clause
     }
 
     /// Returns the place of the writer among those of its location, counted from 0. Its own set has the others, so those below it are counted.
@@ -239,22 +251,27 @@ impl ReadsFromTable {
         at(self.reading.as_slice(), element.number(), 0) != 0
     }
 
-    /// Returns the id after the last clause of the variable: it has one for each writer.
-    pub fn end_id(&self, choice: ReadsFromVariable) -> ClauseId {
-        ClauseId::new(choice.first).ahead(self.writers.count(choice.reader))
+    /// Returns whether the element both reads and writes.
+    pub fn is_update(&self, element: Element) -> bool {
+        self.reads(element) && self.writes(element)
     }
 
-    /// Returns the number of the choice's clause for this writer.
+    /// Returns the id after the last clause of the variable: it has one for each writer.
+    pub fn end_id(&self, choice: ReadsFromVariable) -> ClauseId {
+        choice.first.ahead(self.writers.count(choice.reader))
+    }
+
+    /// Returns the number of the choice's clause for this writer. Places are those in the reader's own set, which does not have the reader.
     pub fn clause_of(&self, choice: ReadsFromVariable, writer: Element) -> ClauseId {
-        let place = self.writers.count_below(choice.reader, writer);
-        let place = match choice.writer {
-            None => place,
-            Some(chosen) if chosen == writer => 0,
-            // The clause of the chosen writer stands before those of all others.
-            Some(chosen) if writer < chosen => place.wrapping_add(1),
-            // For those behind the chosen one the place counts it already.
-            Some(_) => place,
+        let clauses = ChoiceClauses {
+            first: choice.first,
+            reader: None,
+            source: match choice.writer {
+                Some(chosen) => Some(self.writers.count_below(choice.reader, chosen)),
+                None => None,
+            },
+            is_final: false,
         };
-        ClauseId::new(choice.first).ahead(place)
+        clauses.against(self.writers.count_below(choice.reader, writer))
     }
 }

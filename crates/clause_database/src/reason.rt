@@ -1,5 +1,6 @@
 //! Reasons of literals, in a few words each: every literal that becomes true writes one, and only those of a conflict are read.
 
+use crate::stored_clause::StoredClause;
 use order_sets::Element;
 use proof_log::ClauseId;
 use proof_log::codes::{LiteralCode, NEVER, Variable};
@@ -16,9 +17,9 @@ pub enum Reason {
         first: LiteralCode,
         second: LiteralCode,
     },
-    /// The clause at this offset of the arena, which is that of its header.
+    /// This clause of the store.
     Stored {
-        place: u32,
+        clause: StoredClause,
     },
     /// Transitivity of the order, via this event: one element, from which the clause and its id are computed.
     Transitive {
@@ -39,8 +40,8 @@ pub struct ReasonClause {
     pub id: ClauseId,
     /// Number of its literals.
     pub count: u32,
-    /// Offset of its literals in the arena, `HEADER` words behind that of the clause, or 0 if they are inline.
-    pub place: u32,
+    /// The clause in the store, or none if its literals are inline.
+    pub stored: StoredClause,
     first: LiteralCode,
     second: LiteralCode,
     third: LiteralCode,
@@ -66,7 +67,7 @@ impl ReasonClause {
         ReasonClause {
             id,
             count,
-            place: 0,
+            stored: StoredClause::NONE,
             first,
             second,
             third,
@@ -78,12 +79,12 @@ impl ReasonClause {
         ReasonClause::of_literals(ClauseId::NONE, NEVER, NEVER, NEVER)
     }
 
-    /// Returns the clause of this number of literals that begin at this offset of the arena.
-    pub fn stored(id: ClauseId, place: u32, count: u32) -> ReasonClause {
+    /// Returns this clause of the store, with its id and the number of its literals.
+    pub fn of_stored(stored: StoredClause, id: ClauseId, count: u32) -> ReasonClause {
         ReasonClause {
             id,
             count,
-            place,
+            stored,
             first: NEVER,
             second: NEVER,
             third: NEVER,
@@ -93,8 +94,8 @@ impl ReasonClause {
     /// Returns its literal of this number, counted from 0. `store` has the words of the arena.
     #[inline(always)]
     pub fn literal(&self, store: &[u32], number: u32) -> LiteralCode {
-        if self.place != 0 {
-            let word = at(store, self.place.wrapping_add(number), NEVER.code());
+        if self.stored != StoredClause::NONE {
+            let word = at(store, self.stored.literal_place(number), NEVER.code());
             return LiteralCode::new(word);
         }
         match number {

@@ -2,13 +2,11 @@
 //! propagation one more load.
 
 use crate::reason::ReasonClause;
+use crate::stored_clause::StoredClause;
 use proof_log::ClauseId;
 use proof_log::codes::LiteralCode;
 use std::alloc::{AllocError, Global};
 use total_tables::{at, piece, put, size};
-
-/// Words of the header before the literals of a clause: the number of literals, the id, the LBD, and the conflict of its last use.
-pub const HEADER: u32 = 4;
 
 /// LBD of a clause of the formula, which is never dropped.
 pub const GIVEN: u32 = 0;
@@ -16,10 +14,10 @@ pub const GIVEN: u32 = 0;
 /// LBD that marks a clause to be dropped.
 pub const DROPPED: u32 = 0xffff_ffff;
 
-/// Clauses one after the other in one vector. A clause is named by the offset of its header. No clause is at offset 0, which stands for none.
+/// Clauses one after the other in one vector. A clause is named by its place there.
 #[derive(Drop)]
 pub struct Store {
-    /// The first word is none of a clause, so that the first clause is at offset 1.
+    /// The first word is none of a clause, so that the place 0 can stand for none.
     words: Vec<u32>,
 }
 
@@ -37,8 +35,7 @@ impl Store {
         Ok(Store { words })
     }
 
-    /// Returns the words of all clauses. Literals are read in them by offset: by `ReasonClause::literal`, from its `place` on, and by propagation,
-    /// which takes the first literal of a clause, `HEADER` words behind its offset.
+    /// Returns the words of all clauses. Literals are read in them by their places: by `ReasonClause::literal`, and by propagation.
     #[inline(always)]
     pub fn words(&self) -> &[u32] {
         self.words.as_slice()
@@ -50,12 +47,12 @@ impl Store {
         self.words.as_mut_slice()
     }
 
-    /// Returns the number of words: the offset of the clause that is added next.
-    pub fn end(&self) -> u32 {
-        size(self.words.as_slice())
+    /// Returns the place behind all clauses, at which the next one is added.
+    pub fn end(&self) -> StoredClause {
+        StoredClause::new(size(self.words.as_slice()))
     }
 
-    /// Adds the clause behind the others, so its offset is what `end` was. `used` is the conflict that counts as its last use.
+    /// Adds the clause behind the others, so its place is what `end` was. `used` is the conflict that counts as its last use.
     pub fn add(
         &mut self,
         literals: &[LiteralCode],
@@ -74,74 +71,70 @@ impl Store {
 
     /// Returns the literals of the clause, to be iterated over.
     #[inline(always)]
-    pub fn reason(&self, clause: u32) -> ReasonClause {
-        let id = at(self.words.as_slice(), clause.wrapping_add(1), 0);
-        ReasonClause::stored(
-            ClauseId::new(id),
-            clause.wrapping_add(HEADER),
-            self.count(clause),
-        )
+    pub fn reason(&self, clause: StoredClause) -> ReasonClause {
+        let id = at(self.words.as_slice(), clause.header_place(1), 0);
+        ReasonClause::of_stored(clause, ClauseId::new(id), self.count(clause))
     }
 
     /// Returns the number of literals of the clause.
-    pub fn count(&self, clause: u32) -> u32 {
-        at(self.words.as_slice(), clause, 0)
+    pub fn count(&self, clause: StoredClause) -> u32 {
+        at(self.words.as_slice(), clause.header_place(0), 0)
     }
 
     /// Returns its literal of this number, counted from 0.
-    pub fn literal(&self, clause: u32, number: u32) -> LiteralCode {
-        let place = clause.wrapping_add(HEADER).wrapping_add(number);
-        LiteralCode::new(at(self.words.as_slice(), place, 0))
+    pub fn literal(&self, clause: StoredClause, number: u32) -> LiteralCode {
+        LiteralCode::new(at(self.words.as_slice(), clause.literal_place(number), 0))
     }
 
-    pub fn lbd(&self, clause: u32) -> u32 {
-        at(self.words.as_slice(), clause.wrapping_add(2), 0)
+    pub fn lbd(&self, clause: StoredClause) -> u32 {
+        at(self.words.as_slice(), clause.header_place(2), 0)
     }
 
     /// Returns the conflict in which the clause was used last.
-    pub fn used(&self, clause: u32) -> u32 {
-        at(self.words.as_slice(), clause.wrapping_add(3), 0)
+    pub fn used(&self, clause: StoredClause) -> u32 {
+        at(self.words.as_slice(), clause.header_place(3), 0)
     }
 
-    pub fn set_lbd(&mut self, clause: u32, lbd: u32) {
-        put(self.words.as_mut_slice(), clause.wrapping_add(2), lbd);
+    pub fn set_lbd(&mut self, clause: StoredClause, lbd: u32) {
+        put(self.words.as_mut_slice(), clause.header_place(2), lbd);
     }
 
     /// Records that the clause was used in this conflict.
-    pub fn set_used(&mut self, clause: u32, conflict: u32) {
-        put(self.words.as_mut_slice(), clause.wrapping_add(3), conflict);
+    pub fn set_used(&mut self, clause: StoredClause, conflict: u32) {
+        put(self.words.as_mut_slice(), clause.header_place(3), conflict);
     }
 
-    /// Returns the offset of the next clause.
-    pub fn next_clause(&self, clause: u32) -> u32 {
-        clause.wrapping_add(HEADER).wrapping_add(self.count(clause))
+    /// Returns the next clause: it begins where the literals of this one end.
+    pub fn next_clause(&self, clause: StoredClause) -> StoredClause {
+        StoredClause::new(clause.literal_place(self.count(clause)))
     }
 
     /// Returns a compacted arena without the clauses that are marked as dropped. In the old one the id of each clause becomes its
-    /// forwarding offset, or 0, so that watches and reasons are redirected without a table of their own.
+    /// forwarding place, or none, so that watches and reasons are redirected without a table of their own.
     pub fn compacted(&mut self, alloc: Global) -> Result<Store, AllocError> {
         let mut compact = Store::new(alloc)?;
-        let mut clause: u32 = 1;
+        let mut clause = StoredClause::FIRST;
         for _ in 0..self.words.len() {
             let behind = self.next_clause(clause);
-            // A count that makes the offset wrap would lead back.
-            if clause >= self.end() || behind <= clause {
+            // A count that makes the place wrap would lead back.
+            if clause.place() >= self.end().place() || behind.place() <= clause.place() {
                 break;
             }
-            let mut moved = 0;
+            let mut moved = StoredClause::NONE;
             if self.lbd(clause) != DROPPED {
                 moved = compact.end();
-                let words = piece(self.words.as_slice(), clause, behind);
+                let words = piece(self.words.as_slice(), clause.place(), behind.place());
                 compact.words.extend_from_slice(words)?;
             }
-            put(self.words.as_mut_slice(), clause.wrapping_add(1), moved);
+            let id_place = clause.header_place(1);
+            put(self.words.as_mut_slice(), id_place, moved.place());
             clause = behind;
         }
         Ok(compact)
     }
 
-    /// Returns the offset of the clause in the compacted arena, or 0.
-    pub fn moved(&self, clause: u32) -> u32 {
-        at(self.words.as_slice(), clause.wrapping_add(1), 0)
+    /// Returns the clause as it stands in the compacted store, or none.
+    pub fn moved(&self, clause: StoredClause) -> StoredClause {
+        StoredClause::new(at(self.words.as_slice(), clause.header_place(1), 0))
     }
 }

@@ -1,6 +1,7 @@
 //! Watch lists: which clauses are visited when a literal is falsified.
 
 use crate::store::Store;
+use crate::stored_clause::StoredClause;
 use proof_log::codes::{LiteralCode, NEVER};
 use std::alloc::{AllocError, Global};
 use std::mem;
@@ -10,8 +11,7 @@ use total_tables::{at, put, size};
 /// loads of clause memory (Chu, Harwood and Stuckey, 2009).
 #[derive(Clone, Copy)]
 pub struct Watch {
-    /// The offset of the clause in the arena.
-    pub clause: u32,
+    pub clause: StoredClause,
     pub blocker: LiteralCode,
 }
 
@@ -32,19 +32,19 @@ pub struct Watches {
 #[inline(always)]
 pub fn watch_at(list: &[Watch], place: u32) -> Watch {
     let nothing = Watch {
-        clause: 0,
+        clause: StoredClause::NONE,
         blocker: NEVER,
     };
     at(list, place, nothing)
 }
 
-/// Retains the watches whose clauses survived, with their new offsets.
+/// Retains the watches whose clauses survived, with their new places.
 fn move_list(list: &mut Vec<Watch>, old: &Store) {
     let mut kept: u32 = 0;
     for place in 0..size(list.as_slice()) {
         let watch = watch_at(list.as_slice(), place);
         let clause = old.moved(watch.clause);
-        if clause != 0 {
+        if clause != StoredClause::NONE {
             let blocker = watch.blocker;
             put(list.as_mut_slice(), kept, Watch { clause, blocker });
             kept = kept.wrapping_add(1);
@@ -88,7 +88,7 @@ impl Watches {
     }
 
     /// Attaches the clause: it watches its first two literals.
-    pub fn attach(&mut self, store: &Store, clause: u32) -> Result<(), AllocError> {
+    pub fn attach(&mut self, store: &Store, clause: StoredClause) -> Result<(), AllocError> {
         let first = store.literal(clause, 0);
         let second = store.literal(clause, 1);
         self.add(

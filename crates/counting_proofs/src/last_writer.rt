@@ -29,7 +29,7 @@ struct CitedWriters<'a> {
 
 /// Adds the definition of a literal which says that this candidate is the last writer: all others stand before it. The long clause is added
 /// first: the short ones are RAT on the new variable, and their hints name it. They follow one after the other by rising numbers of writers,
-/// as `ReadsFromEdge` counts on from the first to the one against a given writer.
+/// as `ChoiceClauses` counts on from the first to the one against a given writer.
 fn define_last(
     alloc: Global,
     log: &mut StepLog,

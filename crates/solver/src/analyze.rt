@@ -2,7 +2,7 @@
 //! Zhang, Madigan, Moskewicz and Malik, 2001), and learns the clause that is left.
 
 use crate::search::Search;
-use clause_database::ReasonClause;
+use clause_database::{ReasonClause, StoredClause};
 use proof_log::codes::{NEVER, Variable};
 use std::alloc::AllocError;
 use total_tables::{at, put};
@@ -52,8 +52,8 @@ impl<'a> Search<'a> {
     fn resolve(&mut self, reason: ReasonClause) -> Result<u32, AllocError> {
         self.resolved.push(reason.id)?;
         // A clause that is not in the arena is never dropped, so its use is not noted.
-        if reason.place != 0 {
-            self.note_use(reason.place);
+        if reason.stored != StoredClause::NONE {
+            self.note_use(reason.stored);
         }
         let mut of_this_level: u32 = 0;
         for number in 0..reason.count {

@@ -4,13 +4,13 @@
 use crate::search::Search;
 use assignment_trail::{FALSE, OPEN, OrderedTrail, TRUE};
 use clause_database::{
-    HEADER, Others, Reason, ReasonClause, SmallClauses, Store, Watch, Watches, watch_at,
+    Others, Reason, ReasonClause, SmallClauses, Store, StoredClause, Watch, Watches, watch_at,
 };
 use proof_log::codes::{LiteralCode, NEVER};
 use std::alloc::AllocError;
 use total_tables::{at, piece, put, size};
 
-/// The fate of a clause when one of its watched literals is falsified.
+/// What becomes of a clause when one of its watched literals is falsified.
 #[derive(Clone, Copy)]
 enum WatchVisit {
     /// It keeps the watch; this is its other watched literal.
@@ -97,16 +97,16 @@ fn count_false(literals: &[u32], values: &[u8]) -> u32 {
     length
 }
 
-/// Visits a clause one of whose watched literals has been falsified: it finds another watch, or is unit, or is a conflict. `clause` is its offset
-/// in the words, where its header begins with the number of its literals.
+/// Visits a clause one of whose watched literals has been falsified: it finds another watch, or is unit, or is a conflict. The words are those of
+/// the store: its header there begins with the number of its literals.
 #[inline(always)]
 fn visit_clause(
     trail: &mut OrderedTrail<'_>,
     words: &mut [u32],
-    clause: u32,
+    clause: StoredClause,
     falsified: LiteralCode,
 ) -> WatchVisit {
-    let begin = clause.wrapping_add(HEADER);
+    let begin = clause.literal_place(0);
     let behind_first = begin.wrapping_add(1);
     let mut first = LiteralCode::new(at(words, begin, 0));
     // The falsified literal goes second: a literal that the clause makes true stands first, where `is_in_use` looks for it.
@@ -120,7 +120,8 @@ fn visit_clause(
         return WatchVisit::Stays(first);
     }
     let rest = begin.wrapping_add(2);
-    let literals = piece(words, rest, begin.wrapping_add(at(words, clause, 0)));
+    let end = begin.wrapping_add(at(words, clause.header_place(0), 0));
+    let literals = piece(words, rest, end);
     let count = count_false(literals, trail.trail.values());
     if count < size(literals) {
         let place = rest.wrapping_add(count);
@@ -132,34 +133,34 @@ fn visit_clause(
     if value == FALSE {
         return WatchVisit::Fails;
     }
-    trail.assign(first, Reason::Stored { place: clause });
+    trail.assign(first, Reason::Stored { clause });
     WatchVisit::Stays(first)
 }
 
-/// Propagates a falsified literal through the clauses that watch it. Returns the offset of a clause in conflict, if there is one, or 0. Watches
+/// Propagates a falsified literal through the clauses that watch it. Returns a clause in conflict, or none. Watches
 /// that stay are moved up to the front of the list, and one that goes to another literal leaves a gap there.
 fn visit_stored(
     trail: &mut OrderedTrail<'_>,
     store: &mut Store,
     watches: &mut Watches,
     falsified: LiteralCode,
-) -> Result<u32, AllocError> {
+) -> Result<StoredClause, AllocError> {
     if watches.is_empty(falsified) {
-        return Ok(0);
+        return Ok(StoredClause::NONE);
     }
     let mut list = watches.take(falsified);
     let mut kept: u32 = 0;
-    let mut conflict: u32 = 0;
+    let mut conflict = StoredClause::NONE;
     for place in 0..size(list.as_slice()) {
         let mut watch = watch_at(list.as_slice(), place);
         // After a conflict the rest of the list is only moved up, so that no watch is lost.
-        if conflict == 0 && trail.value(watch.blocker) != TRUE {
+        if conflict == StoredClause::NONE && trail.value(watch.blocker) != TRUE {
             match visit_clause(trail, store.words_mut(), watch.clause, falsified) {
                 WatchVisit::Stays(first) => watch.blocker = first,
                 WatchVisit::Moves(literal) => {
                     let clause = watch.clause;
                     // The visit has put the other watched literal first.
-                    let word = at(store.words(), clause.wrapping_add(HEADER), 0);
+                    let word = at(store.words(), clause.literal_place(0), 0);
                     let blocker = LiteralCode::new(word);
                     watches.add(literal, Watch { clause, blocker })?;
                     continue;
@@ -197,7 +198,7 @@ pub fn propagate(
             return Ok(Some(conflict));
         }
         let clause = visit_stored(trail, store, watches, falsified)?;
-        if clause != 0 {
+        if clause != StoredClause::NONE {
             return Ok(Some(store.reason(clause)));
         }
     }

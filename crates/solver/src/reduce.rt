@@ -2,7 +2,7 @@
 
 use crate::search::Search;
 use assignment_trail::TRUE;
-use clause_database::{DROPPED, HEADER, Reason, Store};
+use clause_database::{DROPPED, Reason, Store, StoredClause};
 use std::alloc::AllocError;
 use std::mem;
 use total_tables::{at, put, size};
@@ -11,10 +11,9 @@ use total_tables::{at, put, size};
 const TIER1_LBD: u32 = 2;
 
 impl<'a> Search<'a> {
-    /// Records that the stored clause whose literals begin at this offset was used in this conflict. What is recorded is looked at for learned ones
-    /// alone: their age is a part of their scores.
-    pub(crate) fn note_use(&mut self, place: u32) {
-        let clause = place.wrapping_sub(HEADER);
+    /// Records that the stored clause was used in this conflict. What is recorded is looked at for learned ones alone: their age is a part of
+    /// their scores.
+    pub(crate) fn note_use(&mut self, clause: StoredClause) {
         self.store.set_used(clause, self.conflicts);
     }
 
@@ -35,15 +34,17 @@ impl<'a> Search<'a> {
 
     /// Returns whether the clause is the reason of its first literal. Such a clause is kept, since later analysis asks for it. Each clause that implies
     /// a literal has it first. The reason of a literal whose value was undone is still there, so its value is asked too.
-    fn is_in_use(&self, clause: u32) -> bool {
+    fn is_in_use(&self, clause: StoredClause) -> bool {
         let literal = self.store.literal(clause, 0);
         match self.trail.trail.state(literal.variable()).reason {
-            Reason::Stored { place } => place == clause && self.trail.value(literal) == TRUE,
+            Reason::Stored { clause: its_clause } => {
+                its_clause == clause && self.trail.value(literal) == TRUE
+            }
             _ => false,
         }
     }
 
-    /// Returns the eviction score of each learned clause that may be dropped, in the upper half of a word, with its offset in the lower. One level
+    /// Returns the eviction score of each learned clause that may be dropped, in the upper half of a word, with its place in the lower. One level
     /// more of LBD counts as much as 64 conflicts without use. The highest are dropped first. (By LBD alone the search was two to three times
     /// slower.)
     fn eviction_scores(&self) -> Result<Vec<u64>, AllocError> {
@@ -53,26 +54,27 @@ impl<'a> Search<'a> {
             if lbd > TIER1_LBD && !self.is_in_use(*clause) {
                 let idle = self.conflicts.wrapping_sub(self.store.used(*clause));
                 let score = lbd.min(1 << 20).wrapping_mul(64).saturating_add(idle);
-                eviction_scores.push((u64::from(score) << 32) | u64::from(*clause))?;
+                eviction_scores.push((u64::from(score) << 32) | u64::from(clause.place()))?;
             }
         }
         Ok(eviction_scores)
     }
 
-    /// Redirects reasons, watches and the list of learned clauses after the clauses have moved from the old store, in which each has its new offset,
-    /// or 0 if it was dropped.
+    /// Redirects reasons, watches and the list of learned clauses after the clauses have moved from the old store, in which each has its new place,
+    /// or none if it was dropped.
     fn follow_moves(&mut self, old: &Store) {
         self.watches.move_all(old);
         for place in 0..self.trail.trail.count() {
             let variable = self.trail.trail.literal(place).variable();
-            if let Reason::Stored { place: clause } = self.trail.trail.state(variable).reason {
+            if let Reason::Stored { clause } = self.trail.trail.state(variable).reason {
                 self.trail.trail.move_cause(variable, old.moved(clause));
             }
         }
         let mut kept: u32 = 0;
         for place in 0..size(self.clauses.as_slice()) {
-            let moved = old.moved(at(self.clauses.as_slice(), place, 0));
-            if moved != 0 {
+            let clause = at(self.clauses.as_slice(), place, StoredClause::NONE);
+            let moved = old.moved(clause);
+            if moved != StoredClause::NONE {
                 put(self.clauses.as_mut_slice(), kept, moved);
                 kept = kept.wrapping_add(1);
             }
@@ -103,6 +105,7 @@ impl<'a> Search<'a> {
 /// Marks the half with the higher scores, which stands at the end, as dropped.
 fn drop_half(store: &mut Store, eviction_scores: &[u64]) {
     for place in eviction_scores.len() / 2..eviction_scores.len() {
-        store.set_lbd((eviction_scores[place] & 0xffff_ffff) as u32, DROPPED);
+        let clause = StoredClause::new((eviction_scores[place] & 0xffff_ffff) as u32);
+        store.set_lbd(clause, DROPPED);
     }
 }

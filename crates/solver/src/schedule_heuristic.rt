@@ -75,7 +75,7 @@ fn are_mostly_updates(trail: &OrderedTrail<'_>) -> bool {
     let mut updates: u32 = 0;
     for number in 0..elements {
         let element = Element::new(number);
-        if reads_from.reads(element) && reads_from.writes(element) {
+        if reads_from.is_update(element) {
             updates = updates.wrapping_add(1);
         }
     }

@@ -7,7 +7,8 @@ use crate::restart::{Restarts, SHORT_UNIT, UNIT};
 use crate::schedule_heuristic::{MAX_STATES, ScheduleHeuristic};
 use assignment_trail::{Activities, FALSE, OPEN, OrderedTrail, TRUE};
 use clause_database::{
-    EncodingHints, Reason, ReasonClause, SmallClause, SmallClauses, Store, Unit, Watches,
+    EncodingHints, Reason, ReasonClause, SmallClause, SmallClauses, Store, StoredClause, Unit,
+    Watches,
 };
 use dimacs::Lit;
 use proof_log::codes::{LiteralCode, NEVER, Variable, code_of};
@@ -26,8 +27,8 @@ pub struct Search<'a> {
     pub(crate) small: SmallClauses,
     pub(crate) store: Store,
     pub(crate) watches: Watches,
-    /// The offsets of the learned clauses in the store. A clause that is not among them is never dropped.
-    pub(crate) clauses: Vec<u32>,
+    /// The learned clauses. A clause that is not among them is never dropped.
+    pub(crate) clauses: Vec<StoredClause>,
     /// A conflict that was found and has not been analysed.
     pub(crate) conflict: Option<ReasonClause>,
 
@@ -195,10 +196,9 @@ impl<'a> Search<'a> {
 impl<'a> Search<'a> {
     /// Attaches the longer clauses to the watch lists of their first two literals.
     fn attach_long(&mut self) -> Result<(), AllocError> {
-        // The first clause is at offset 1.
-        let mut clause: u32 = 1;
-        for _ in 0..self.store.end() {
-            if clause >= self.store.end() {
+        let mut clause = StoredClause::FIRST;
+        for _ in 0..self.store.end().place() {
+            if clause.place() >= self.store.end().place() {
                 break;
             }
             self.watches.attach(&self.store, clause)?;
@@ -302,9 +302,12 @@ impl<'a> Search<'a> {
 
     /// Decides and propagates until there is a conflict or nothing is left to decide.
     pub(crate) fn propagate_and_decide(&mut self) -> Result<Option<ReasonClause>, AllocError> {
+        // Propagation would not find it again: the literal that made its clause false was propagated already, or none watches the clause.
         if let Some(conflict) = self.conflict.take() {
             return Ok(Some(conflict));
         }
+        // Each turn but the last decides an open variable, so these are enough. A loop without a bound would need a proof that it ends, and nothing is
+        // proved of the trail.
         for _ in 0..=self.variables {
             if let Some(conflict) = self.propagate()? {
                 return Ok(Some(conflict));
@@ -373,7 +376,7 @@ impl<'a> Search<'a> {
             .add(self.learned.as_slice(), id, lbd, self.conflicts)?;
         self.watches.attach(&self.store, clause)?;
         self.clauses.push(clause)?;
-        self.trail.assign(first, Reason::Stored { place: clause });
+        self.trail.assign(first, Reason::Stored { clause });
         Ok(())
     }
 

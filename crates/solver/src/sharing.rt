@@ -65,7 +65,7 @@ impl<'a> Search<'a> {
         let Some(open) = self.open_first(clause.literals)? else {
             return Ok(());
         };
-        let place = self.store.end();
+        let stored = self.store.end();
         self.store.add(
             self.learned.as_slice(),
             clause.id,
@@ -74,14 +74,14 @@ impl<'a> Search<'a> {
         )?;
         // A clause that is false, or makes a literal true at level 0, need not be watched. It is not among `clauses` either, so it is never dropped.
         match open {
-            0 => self.conflict = Some(self.store.reason(place)),
+            0 => self.conflict = Some(self.store.reason(stored)),
             1 => self.trail.assign(
                 at(self.learned.as_slice(), 0, NEVER),
-                Reason::Stored { place },
+                Reason::Stored { clause: stored },
             ),
             _ => {
-                self.watches.attach(&self.store, place)?;
-                self.clauses.push(place)?;
+                self.watches.attach(&self.store, stored)?;
+                self.clauses.push(stored)?;
             }
         }
         Ok(())

@@ -45,7 +45,7 @@ pub(crate) fn has_updates(encoding: EncodingHints<'_>) -> bool {
     };
     for number in 0..reads_from.elements() {
         let element = Element::new(number);
-        if reads_from.reads(element) && reads_from.writes(element) {
+        if reads_from.is_update(element) {
             return true;
         }
     }

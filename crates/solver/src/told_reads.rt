@@ -7,7 +7,6 @@ use counting_proofs::{
     SourceSets, Update,
 };
 use order_sets::Element;
-use proof_log::ClauseId;
 use proof_log::codes::Variable;
 use std::alloc::{AllocError, Global};
 use total_tables::{at, size};
@@ -58,25 +57,23 @@ impl<'s, 'a> ReadSources<'s, 'a> {
             Some(writer) => (SourceId::of(writer), Some(self.place_of(writer))),
             None => (first_value(self.reads_from, choice.reader), None),
         };
-        let variable = Variable::new(choice.variable);
         Source {
             source,
             place,
-            variable,
-            first: ClauseId::new(choice.first),
-            is_excluded: is_excluded(self.trail, variable),
+            variable: choice.variable,
+            first: choice.first,
+            is_excluded: is_excluded(self.trail, choice.variable),
         }
     }
 
     /// Returns the last writer as a source of the final value.
     fn source_of_last(self, last: LastWriter) -> Source {
-        let variable = Variable::new(last.variable);
         Source {
             source: SourceId::of(last.writer),
             place: Some(self.place_of(last.writer)),
-            variable,
-            first: ClauseId::new(last.first),
-            is_excluded: is_excluded(self.trail, variable),
+            variable: last.variable,
+            first: last.first,
+            is_excluded: is_excluded(self.trail, last.variable),
         }
     }
 
@@ -100,7 +97,7 @@ impl<'s, 'a> ReadSources<'s, 'a> {
                 reads.add_reader(Reader {
                     update: Some(update),
                     // The clause which says that one of its choices is made stands before those of its first choice.
-                    clause: ClauseId::new(choice.first).previous(),
+                    clause: choice.first.previous(),
                 })?;
             }
             reads.add_choice(self.source_of(*choice))?;
@@ -108,18 +105,18 @@ impl<'s, 'a> ReadSources<'s, 'a> {
         Ok(())
     }
 
-    /// Adds the final values. Last writers of one location have the same clause, and no clause has the id 0.
+    /// Adds the final values.
     fn tell_finals(self, reads: &mut MatchingInstance) -> Result<(), AllocError> {
-        let mut clause: u32 = 0;
+        let mut place: u32 = 0;
         for last in self.reads_from.last_writers() {
-            if last.clause != clause {
-                clause = last.clause;
+            if self.reads_from.begins_location(place) {
                 reads.add_reader(Reader {
                     update: None,
-                    clause: ClauseId::new(clause),
+                    clause: last.clause,
                 })?;
             }
             reads.add_choice(self.source_of_last(*last))?;
+            place = place.wrapping_add(1);
         }
         Ok(())
     }
@@ -166,15 +163,15 @@ fn add_finals(
     reads_from: &ReadsFromTable,
     sets: &mut SourceSets,
 ) -> Result<(), AllocError> {
-    let mut clause: u32 = 0;
+    let mut place: u32 = 0;
     for last in reads_from.last_writers() {
-        if last.clause != clause {
-            clause = last.clause;
+        if reads_from.begins_location(place) {
             sets.add_reader(None)?;
         }
-        if !is_excluded(trail, Variable::new(last.variable)) {
+        if !is_excluded(trail, last.variable) {
             sets.add_source(SourceId::of(last.writer));
         }
+        place = place.wrapping_add(1);
     }
     Ok(())
 }
@@ -191,10 +188,7 @@ fn sources_below(
     let mut sets = SourceSets::new(alloc, readers, sources)?;
     for number in 0..elements {
         let element = Element::new(number);
-        if reads_from.reads(element)
-            && reads_from.writes(element)
-            && !add_update(trail, reads_from, element, &mut sets)?
-        {
+        if reads_from.is_update(element) && !add_update(trail, reads_from, element, &mut sets)? {
             return Ok(None);
         }
     }
@@ -237,7 +231,7 @@ pub fn has_enough_sources(
     let mut glance = GreedyMatching::new(alloc, known, &trail.candidates.writers)?;
     for number in 0..reads_from.elements() {
         let element = Element::new(number);
-        if reads_from.reads(element) && reads_from.writes(element) {
+        if reads_from.is_update(element) {
             let variable = reads_from.variable_without_writer(element);
             let may_have_first = variable != Variable::NONE && !is_excluded(trail, variable);
             glance.add_update(element, may_have_first);
@@ -246,15 +240,15 @@ pub fn has_enough_sources(
     if !glance.has_updates() {
         return Ok(true);
     }
-    let mut clause: u32 = 0;
+    let mut place: u32 = 0;
     for last in reads_from.last_writers() {
-        if last.clause != clause {
-            clause = last.clause;
+        if reads_from.begins_location(place) {
             glance.add_location(last.writer)?;
         }
-        if !is_excluded(trail, Variable::new(last.variable)) {
+        if !is_excluded(trail, last.variable) {
             glance.add_end(last.writer);
         }
+        place = place.wrapping_add(1);
     }
     glance.shows_enough(alloc)
 }

@@ -1,6 +1,8 @@
 //! Decision variables.
 
-use clause_database::{EncodingHints, FormulaLoader, ReadsFromTable, SmallClause, Store};
+use clause_database::{
+    EncodingHints, FormulaLoader, ReadsFromTable, SmallClause, Store, StoredClause,
+};
 use order_sets::{Element, next_element};
 use proof_log::codes::{NEVER, Variable};
 use std::alloc::{AllocError, Global};
@@ -25,9 +27,9 @@ fn want_small(marks: &mut [u8], clauses: &[SmallClause]) {
 
 /// Marks the variables of the longer clauses.
 fn want_long(marks: &mut [u8], long: &Store) {
-    let mut clause: u32 = 1;
-    for _ in 0..long.end() {
-        if clause >= long.end() {
+    let mut clause = StoredClause::FIRST;
+    for _ in 0..long.end().place() {
+        if clause.place() >= long.end().place() {
             break;
         }
         for number in 0..long.count(clause) {
@@ -66,7 +68,7 @@ fn want_reads(
     let mut in_choices = vec![in alloc; 0; elements as usize]?;
     for choice in reads_from.choices() {
         if let Some(choice) = choice {
-            want(marks, Variable::new(choice.variable));
+            want(marks, choice.variable);
             put(in_choices.as_mut_slice(), choice.reader.number(), 1);
             if let Some(writer) = choice.writer {
                 put(in_choices.as_mut_slice(), writer.number(), 1);

@@ -3,7 +3,7 @@
 use crate::reader_id::ReaderId;
 use crate::source_id::SourceId;
 use formula_numbers::{ClauseId, LiteralCode, Variable};
-use order_sets::Element;
+use order_sets::{ChoiceClauses, Element};
 use std::alloc::{AllocError, Global};
 use total_tables::{at, size};
 
@@ -25,11 +25,7 @@ pub struct Reader {
     pub clause: ClauseId,
 }
 
-/// A reads-from edge: if its variable is true, the reader reads from this source.
-///
-/// With the variable s and x(i,j) for "i stands before j", the choice of the update r and the writer w has the clauses `-s x(w,r)`,
-/// and then `-s x(q,w) x(r,q)` for all other writers q of the location, by their places. That of r and the initial value has
-/// `-s x(r,q)` for all q but r, and that of the final value and the writer w `-s x(q,w)` for all q but w.
+/// A reads-from edge: if its variable is true, the reader reads from this source. `ChoiceClauses` has the order of its clauses.
 #[derive(Clone, Copy)]
 pub struct ReadsFromEdge {
     pub source: SourceId,
@@ -48,25 +44,15 @@ impl ReadsFromEdge {
         self.variable.positive()
     }
 
-    /// Returns its clause that forbids this writer, by its place, to come between, if it is an edge of this reader. The reader and the source
-    /// have no such clause, so each of them with a smaller place than the writer takes one off its number.
+    /// Returns its clause that forbids this writer, by its place, to come between, if it is an edge of this reader.
     fn clause_against(self, reader: Reader, writer: u32) -> ClauseId {
-        let mut clause = self.first.ahead(writer);
-        if let Some(update) = reader.update {
-            if update.place < writer {
-                clause = clause.previous();
-            }
-            // The clause that puts the source before the reader comes first.
-            if self.place.is_some() {
-                clause = clause.next();
-            }
-        }
-        if let Some(place) = self.place {
-            if place < writer {
-                clause = clause.previous();
-            }
-        }
-        clause
+        let clauses = ChoiceClauses {
+            first: self.first,
+            reader: reader.update.map(|update| update.place),
+            source: self.place,
+            is_final: reader.update.is_none(),
+        };
+        clauses.against(writer)
     }
 }
 

@@ -52,7 +52,8 @@ impl SourceSets {
         Ok(())
     }
 
-    /// Adds the update that is this operation, which may have these sources: the set of which it is the owner.
+    /// Adds the update that is this operation, which may have these sources: the set of which it is the owner. It is copied word by word, since a search
+    /// keeps this set anyway: to add one source after the other, the caller would have to look again at each choice whether it is excluded.
     #[inline(always)]
     pub fn add_update(&mut self, update: Element, sources: &ElementSets) -> Result<(), AllocError> {
         let start = self.readers().wrapping_mul(self.words);

@@ -4,6 +4,8 @@
 use clause_blocks::trace_clauses::TraceClauses;
 use clause_meaning::clause_runs::ClauseRuns;
 use clause_meaning::run::ClauseRun;
+use proof_log::ClauseId;
+use proof_log::codes::Variable;
 use solver::{Element, EncodingHints, LastWriter, ReadsFromTable, ReadsFromVariable};
 use std::alloc::{AllocError, Global};
 use var_layout::layout::Layout;
@@ -19,8 +21,8 @@ fn element_of(operation: usize) -> Element {
 }
 
 /// Returns the id of the clause at this place, as the solver counts clauses: from 1.
-fn id_at(place: usize) -> u32 {
-    number_of(place).saturating_add(1)
+fn id_at(place: usize) -> ClauseId {
+    ClauseId::new(number_of(place).saturating_add(1))
 }
 
 /// Returns hints that name the clauses of transitivity.
@@ -38,18 +40,18 @@ fn add_writers(reads_from: &mut ReadsFromTable, layout: &Layout) {
     }
 }
 
-/// Adds the choice of the run, if it is of one, where the first of its clauses has this number and `has_last` is that of the last clause which
-/// says that some writer leaves a final value. That number for the next run.
+/// Adds the choice of the run, if it is of one, where `first` is the first of its clauses and `has_last` the last clause which says that some writer
+/// leaves a final value. Returns that one for the next run.
 fn add_run(
     reads_from: &mut ReadsFromTable,
     run: ClauseRun,
-    first: u32,
-    has_last: u32,
-) -> Result<u32, AllocError> {
+    first: ClauseId,
+    has_last: ClauseId,
+) -> Result<ClauseId, AllocError> {
     match run {
         ClauseRun::FromInitial { reader, variable } => {
             reads_from.add_choice(ReadsFromVariable {
-                variable,
+                variable: Variable::new(variable),
                 reader: element_of(reader),
                 writer: None,
                 first,
@@ -60,14 +62,14 @@ fn add_run(
             variable,
             source,
         } => reads_from.add_choice(ReadsFromVariable {
-            variable,
+            variable: Variable::new(variable),
             reader: element_of(reader),
             writer: Some(element_of(source)),
             first,
         })?,
         ClauseRun::HasLast(_) => return Ok(first),
         ClauseRun::FromLast { variable, last, .. } => reads_from.add_last_writer(LastWriter {
-            variable,
+            variable: Variable::new(variable),
             writer: element_of(last),
             clause: has_last,
             first,
@@ -92,8 +94,8 @@ pub fn reads_from_table(
     let mut reads_from = ReadsFromTable::new(alloc, number_of(layout.operations()))?;
     add_writers(&mut reads_from, layout);
     let runs = ClauseRuns::of(alloc, clauses)?;
-    // 0 is no clause: the run that names the clause stands before those of the writers that need it.
-    let mut has_last = 0;
+    // The run that names the clause stands before those of the writers that need it.
+    let mut has_last = ClauseId::NONE;
     for k in 0..runs.count() {
         has_last = add_run(&mut reads_from, runs.run(k), id_at(runs.start(k)), has_last)?;
     }

@@ -79,7 +79,7 @@ fn is_right_choice(
         if !table.writers().has(choice.reader, writer) {
             continue;
         }
-        let meaning = said(meanings, table.clause_of(choice, writer).number());
+        let meaning = said(meanings, table.clause_of(choice, writer));
         let is_right = if choice.writer == Some(writer) {
             is_after(meaning, reader, choice.variable, number)
         } else {
@@ -89,24 +89,22 @@ fn is_right_choice(
             return false;
         }
     }
-    let behind = table.end_id(choice).number();
+    let behind = table.end_id(choice);
+    let before = choice.first.previous();
     !is_of(said(meanings, behind), choice.variable)
-        && !is_of(
-            said(meanings, choice.first.wrapping_sub(1)),
-            choice.variable,
-        )
+        && !is_of(said(meanings, before), choice.variable)
 }
 
 /// Returns whether the table names the clause that says which writers can be the last, and those of this one by rising numbers of the others.
 fn is_right_last(meanings: &ClauseRuns<'_>, table: &ReadsFromTable, last: LastWriter) -> bool {
-    let mut number = last.first;
+    let mut clause = last.first;
     let writer = last.writer.number();
     for other in 0..table.elements() {
         if table.writers().has(last.writer, Element::new(other)) {
-            if !is_before_last(said(meanings, number), last.variable, writer, other) {
+            if !is_before_last(said(meanings, clause), last.variable, writer, other) {
                 return false;
             }
-            number = number.wrapping_add(1);
+            clause = clause.next();
         }
     }
     is_last(said(meanings, last.clause))
@@ -123,7 +121,7 @@ fn right_choices(meanings: &ClauseRuns<'_>, table: &ReadsFromTable) -> Option<us
         if !is_right_choice(meanings, table, *choice) {
             return None;
         }
-        let before = said(meanings, choice.first.wrapping_sub(1));
+        let before = said(meanings, choice.first.previous());
         if choice.reader != reader && !is_source(before, choice.reader.number()) {
             return None;
         }

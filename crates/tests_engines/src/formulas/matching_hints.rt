@@ -5,7 +5,7 @@ use crate::formulas::said_clauses::{is_after, is_against, is_before_last, said};
 use crate::traces::{ALL_FAMILIES, UPDATES, reduced_of};
 use clause_blocks::trace_clauses::TraceClauses;
 use clause_meaning::clause_runs::ClauseRuns;
-use formula_numbers::{ClauseId, Variable};
+use formula_numbers::ClauseId;
 use order_sets::Element;
 use solver::{LastWriter, ReadsFromTable, ReadsFromVariable};
 use source_matching::{MatchingInstance, Reader, ReaderId, ReadsFromEdge, SourceId, Update};
@@ -45,8 +45,8 @@ fn add_update(
     let edge = ReadsFromEdge {
         source: SourceId::new(number_of(choice.writer).unwrap_or(table.elements())),
         place: place_of(table, choice.writer),
-        variable: Variable::new(choice.variable),
-        first: ClauseId::new(choice.first),
+        variable: choice.variable,
+        first: choice.first,
         is_excluded: false,
     };
     ample(rt, reads.add_choice(edge));
@@ -61,14 +61,14 @@ fn add_final_value(
 ) {
     let reader = Reader {
         update: None,
-        clause: ClauseId::new(last.clause),
+        clause: last.clause,
     };
     ample(rt, reads.add_reader(reader));
     let edge = ReadsFromEdge {
         source: SourceId::of(last.writer),
         place: place_of(table, Some(last.writer)),
-        variable: Variable::new(last.variable),
-        first: ClauseId::new(last.first),
+        variable: last.variable,
+        first: last.first,
         is_excluded: false,
     };
     ample(rt, reads.add_choice(edge));
@@ -81,7 +81,7 @@ fn forbids(
     choice: ReadsFromVariable,
     other: ReadsFromVariable,
 ) -> bool {
-    let meaning = said(meanings, clause.number());
+    let meaning = said(meanings, clause);
     is_against(
         meaning,
         choice.reader.number(),
@@ -99,7 +99,7 @@ fn puts_after(
     source: Element,
 ) -> bool {
     is_after(
-        said(meanings, clause.number()),
+        said(meanings, clause),
         choice.reader.number(),
         choice.variable,
         source.number(),
@@ -149,7 +149,7 @@ fn assert_last(
     add_update(rt, &mut reads, table, choice);
     let (first, second) = (ReaderId::new(0), ReaderId::new(1));
     let hints = reads.hints_of_pair((first, second), (0, 1));
-    let before = said(meanings, hints[0].number());
+    let before = said(meanings, hints[0]);
     assert!(rt;
         is_before_last(
             before,

@@ -2,10 +2,11 @@
 
 use clause_meaning::clause_runs::ClauseRuns;
 use clause_meaning::meaning::ClauseMeaning;
+use formula_numbers::{ClauseId, Variable};
 
-/// The meaning of the clause of this number, counted from 1.
-pub fn said(meanings: &ClauseRuns<'_>, number: u32) -> Option<ClauseMeaning> {
-    meanings.meaning_at(number.checked_sub(1)? as usize)
+/// The meaning of the clause, if the list has it.
+pub fn said(meanings: &ClauseRuns<'_>, clause: ClauseId) -> Option<ClauseMeaning> {
+    meanings.meaning_at(clause.number().checked_sub(1)? as usize)
 }
 
 /// Returns whether the source is this operation.
@@ -20,7 +21,7 @@ fn is_the(source: Option<u32>, operation: usize) -> bool {
 pub fn is_against(
     meaning: Option<ClauseMeaning>,
     reader: u32,
-    variable: u32,
+    variable: Variable,
     source: Option<u32>,
     writer: u32,
 ) -> bool {
@@ -31,7 +32,10 @@ pub fn is_against(
                 variable: v,
                 writer: w,
             },
-        ) => r == reader as usize && v == variable && source.is_none() && w == writer as usize,
+        ) => r == reader as usize
+            && v == variable.number()
+            && source.is_none()
+            && w == writer as usize,
         Some(
             ClauseMeaning::NotBetween {
                 reader: r,
@@ -39,13 +43,23 @@ pub fn is_against(
                 source: s,
                 writer: w,
             },
-        ) => { r == reader as usize && v == variable && is_the(source, s) && w == writer as usize }
+        ) => {
+            r == reader as usize
+                && v == variable.number()
+                && is_the(source, s)
+                && w == writer as usize
+        }
         _ => false,
     }
 }
 
 /// Returns whether this is said of the choice of the reader: that the source stands before it.
-pub fn is_after(meaning: Option<ClauseMeaning>, reader: u32, variable: u32, source: u32) -> bool {
+pub fn is_after(
+    meaning: Option<ClauseMeaning>,
+    reader: u32,
+    variable: Variable,
+    source: u32,
+) -> bool {
     match meaning {
         Some(
             ClauseMeaning::AfterSource {
@@ -53,7 +67,7 @@ pub fn is_after(meaning: Option<ClauseMeaning>, reader: u32, variable: u32, sour
                 variable: v,
                 source: s,
             },
-        ) => r == reader as usize && v == variable && s == source as usize,
+        ) => r == reader as usize && v == variable.number() && s == source as usize,
         _ => false,
     }
 }
@@ -61,7 +75,7 @@ pub fn is_after(meaning: Option<ClauseMeaning>, reader: u32, variable: u32, sour
 /// Returns whether this is said of the last writer: that the other one stands before it.
 pub fn is_before_last(
     meaning: Option<ClauseMeaning>,
-    variable: u32,
+    variable: Variable,
     writer: u32,
     other: u32,
 ) -> bool {
@@ -73,7 +87,7 @@ pub fn is_before_last(
                 writer: w,
                 ..
             },
-        ) => v == variable && last == writer as usize && w == other as usize,
+        ) => v == variable.number() && last == writer as usize && w == other as usize,
         _ => false,
     }
 }
@@ -95,11 +109,11 @@ pub fn is_last(meaning: Option<ClauseMeaning>) -> bool {
 }
 
 /// Returns whether a clause is of the choice with this variable.
-pub fn is_of(meaning: Option<ClauseMeaning>, variable: u32) -> bool {
+pub fn is_of(meaning: Option<ClauseMeaning>, variable: Variable) -> bool {
     match meaning {
-        Some(ClauseMeaning::BeforeWriter { variable: v, .. }) => v == variable,
-        Some(ClauseMeaning::AfterSource { variable: v, .. }) => v == variable,
-        Some(ClauseMeaning::NotBetween { variable: v, .. }) => v == variable,
+        Some(ClauseMeaning::BeforeWriter { variable: v, .. }) => v == variable.number(),
+        Some(ClauseMeaning::AfterSource { variable: v, .. }) => v == variable.number(),
+        Some(ClauseMeaning::NotBetween { variable: v, .. }) => v == variable.number(),
         _ => false,
     }
 }

@@ -4,6 +4,8 @@ use crate::expectations::{ample, expect};
 use crate::solving::answers::{Shown, solved};
 use crate::solving::formulas::{PIGEONHOLE, STORE_BUFFERING, listed};
 use dimacs::Formula;
+use proof_log::ClauseId;
+use proof_log::codes::Variable;
 use solver::{Element, EncodingHints, ReadsFromTable, ReadsFromVariable};
 use std::alloc::{AllocError, Global};
 use std::process::Abort;
@@ -15,10 +17,10 @@ fn store_buffering_reads(alloc: Global) -> Result<ReadsFromTable, AllocError> {
     reads_from.add_writer(Element::new(3), Element::new(0));
     for (variable, reader, first) in [(7, 1, 12), (8, 3, 14)] {
         reads_from.add_choice(ReadsFromVariable {
-            variable,
+            variable: Variable::new(variable),
             reader: Element::new(reader),
             writer: None,
-            first,
+            first: ClauseId::new(first),
         })?;
     }
     Ok(reads_from)
@@ -36,7 +38,7 @@ fn assert_one_conflict(rt: &impl Abort, alloc: Global, formula: &Formula, encodi
 fn store_buffering_takes_one_conflict(rt: HostRuntime) {
     let formula = ample(&rt, listed(rt.alloc(), 8, &STORE_BUFFERING));
     let reads_from = ample(&rt, store_buffering_reads(rt.alloc()));
-    let with_order = EncodingHints::with_order(4, 3);
+    let with_order = EncodingHints::with_order(4, ClauseId::new(3));
     let with_reads = with_order.with_reads_from(&reads_from);
     for encoding in [EncodingHints::none(), with_order, with_reads] {
         assert_one_conflict(&rt, rt.alloc(), &formula, encoding);

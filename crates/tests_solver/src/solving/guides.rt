@@ -4,18 +4,19 @@ use crate::expectations::ample;
 use crate::solving::formulas::{STORE_BUFFERING, add, formula_of};
 use crate::solving::random_formulas::{Random, assert_solved};
 use dimacs::{Clause, Formula};
+use proof_log::ClauseId;
 use solver::EncodingHints;
 use std::alloc::{AllocError, Global};
 
 /// Some random clauses, the transitivity of an order of four, and more random clauses, over ten variables of which the first six
-/// are those of the order. How many clauses come first is reported too. Transitivity has the clauses 3 to 10 of store buffering.
-fn random_order(alloc: Global, random: &mut Random) -> Result<(Formula, u32), AllocError> {
+/// are those of the order. The first clause of transitivity is reported too. It has the clauses 3 to 10 of store buffering.
+fn random_order(alloc: Global, random: &mut Random) -> Result<(Formula, ClauseId), AllocError> {
     let mut clauses: Vec<Clause> = Vec::new(alloc);
-    let mut first: u32 = 1;
+    let mut first = ClauseId::new(1);
     for _ in 0..random.next() % 3 {
         let numbers = [random.literal(1, 6), random.literal(1, 10)];
         add(alloc, &mut clauses, &numbers)?;
-        first = first.wrapping_add(1);
+        first = first.next();
     }
     for numbers in &STORE_BUFFERING[2..10] {
         add(alloc, &mut clauses, *numbers)?;

@@ -4,6 +4,7 @@ use crate::expectations::{ample, expect};
 use crate::solving::answers::{Shown, shown_by, solved};
 use crate::solving::formulas::{PIGEONHOLE, STORE_BUFFERING, listed, literals_of};
 use dimacs::{Formula, Lit};
+use proof_log::ClauseId;
 use solver::{EncodingHints, PreparedFormula, solve_cube};
 use std::alloc::{AllocError, Global};
 use std::process::Abort;
@@ -37,7 +38,7 @@ fn assert_shared(rt: &impl Abort, alloc: Global, formula: &Formula, encoding: En
 fn assert_no_help(rt: &impl Abort, alloc: Global, formula: &Formula, other: &Formula) {
     let prepared = ample(
         rt,
-        PreparedFormula::of(alloc, other, EncodingHints::with_order(4, 3)),
+        PreparedFormula::of(alloc, other, EncodingHints::with_order(4, ClauseId::new(3))),
     );
     let shown = ample(rt, shown_in(alloc, &prepared, formula, &[]));
     expect(rt, shown == Shown::Mistake, 0);
@@ -49,7 +50,12 @@ fn one_preparation_serves_all_cubes(rt: HostRuntime) {
     let formula = ample(&rt, listed(alloc, 12, &PIGEONHOLE));
     assert_shared(&rt, alloc, &formula, EncodingHints::none());
     let formula = ample(&rt, listed(alloc, 8, &STORE_BUFFERING[..13]));
-    assert_shared(&rt, alloc, &formula, EncodingHints::with_order(4, 3));
+    assert_shared(
+        &rt,
+        alloc,
+        &formula,
+        EncodingHints::with_order(4, ClauseId::new(3)),
+    );
 }
 
 #[test]

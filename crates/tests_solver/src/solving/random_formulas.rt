@@ -5,6 +5,7 @@ use crate::solving::answers::{Shown, solved};
 use crate::solving::formulas::{add, formula_of, literals_of};
 use crate::solving::plain_solver::has_model;
 use dimacs::{Clause, Formula};
+use proof_log::ClauseId;
 use solver::EncodingHints;
 use std::alloc::{AllocError, Global};
 use std::process::Abort;
@@ -145,7 +146,7 @@ fn wrong_guides_cost_no_truth(rt: HostRuntime) {
         let formula = ample(&rt, random_formula(alloc, &mut random));
         let known = ample(&rt, has_model(alloc, &formula, &[])) == Some(true);
         for (elements, first) in &WRONG {
-            let encoding = EncodingHints::with_order(*elements, *first);
+            let encoding = EncodingHints::with_order(*elements, ClauseId::new(*first));
             assert_true(&rt, alloc, &formula, encoding, known);
         }
     }

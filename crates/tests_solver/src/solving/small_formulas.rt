@@ -4,6 +4,7 @@ use crate::expectations::ample;
 use crate::solving::formulas::{PIGEONHOLE, STORE_BUFFERING, listed};
 use crate::solving::random_formulas::assert_solved;
 use dimacs::Formula;
+use proof_log::ClauseId;
 use solver::EncodingHints;
 use std::alloc::Global;
 use std::process::Abort;
@@ -44,9 +45,19 @@ fn solves_store_buffering(rt: HostRuntime) {
     for count in [14, 13, 12, 11] {
         let formula = ample(&rt, listed(alloc, 8, &STORE_BUFFERING[..count]));
         assert_all_solved(&rt, alloc, &formula, EncodingHints::none());
-        assert_all_solved(&rt, alloc, &formula, EncodingHints::with_order(4, 3));
+        assert_all_solved(
+            &rt,
+            alloc,
+            &formula,
+            EncodingHints::with_order(4, ClauseId::new(3)),
+        );
     }
     let formula = ample(&rt, listed(alloc, 8, &STORE_BUFFERING[2..]));
     assert_all_solved(&rt, alloc, &formula, EncodingHints::none());
-    assert_all_solved(&rt, alloc, &formula, EncodingHints::with_order(4, 1));
+    assert_all_solved(
+        &rt,
+        alloc,
+        &formula,
+        EncodingHints::with_order(4, ClauseId::new(1)),
+    );
 }

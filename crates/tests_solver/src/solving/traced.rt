@@ -2,6 +2,8 @@
 
 use crate::solving::formulas::{add, formula_of};
 use dimacs::{Clause, Formula};
+use proof_log::ClauseId;
+use proof_log::codes::Variable;
 use solver::{Element, EncodingHints, LastWriter, ReadsFromTable, ReadsFromVariable};
 use std::alloc::{AllocError, Global};
 
@@ -53,8 +55,8 @@ impl TracedMistake {
 pub struct Traced {
     pub formula: Formula,
     elements: u32,
-    /// The number of the first clause that says that the order is transitive.
-    first: u32,
+    /// The first clause that says that the order is transitive.
+    first: ClauseId,
     reads_from: ReadsFromTable,
 }
 
@@ -72,7 +74,7 @@ struct Made {
     clauses: Vec<Clause>,
     reads_from: ReadsFromTable,
     /// The last variable.
-    variables: u32,
+    last: Variable,
     mistake: TracedMistake,
 }
 
@@ -91,16 +93,16 @@ impl Made {
         }
     }
 
-    /// The number of the next clause.
-    fn next(&self) -> u32 {
+    /// The next clause.
+    fn next(&self) -> ClauseId {
         let stored = u32::try_from(self.clauses.len()).unwrap_or(0);
-        stored.wrapping_add(1)
+        ClauseId::new(stored).next()
     }
 
     /// Gives what is wrong in what is reported of this variable.
-    fn mistake_of(&self, variable: u32) -> TracedMistake {
+    fn mistake_of(&self, variable: Variable) -> TracedMistake {
         let pairs = self.elements.wrapping_mul(self.elements.wrapping_sub(1)) / 2;
-        self.mistake.of(variable.wrapping_sub(pairs))
+        self.mistake.of(variable.number().wrapping_sub(pairs))
     }
 
     /// The element that stands the given number of places further on, counted around.
@@ -116,10 +118,10 @@ impl Made {
             None => None,
         };
         ReadsFromVariable {
-            variable: choice.variable.wrapping_add(mistake.variables),
+            variable: Variable::new(choice.variable.number().wrapping_add(mistake.variables)),
             reader: self.further(choice.reader, mistake.readers),
             writer,
-            first: choice.first.wrapping_add(mistake.clauses),
+            first: choice.first.ahead(mistake.clauses),
         }
     }
 
@@ -127,17 +129,22 @@ impl Made {
     fn told_of_last(&self, last: LastWriter) -> LastWriter {
         let mistake = self.mistake_of(last.variable);
         LastWriter {
-            variable: last.variable.wrapping_add(mistake.variables),
+            variable: Variable::new(last.variable.number().wrapping_add(mistake.variables)),
             writer: self.further(last.writer, mistake.writers),
-            clause: last.clause.wrapping_add(mistake.clauses),
-            first: last.first.wrapping_add(mistake.clauses),
+            clause: last.clause.ahead(mistake.clauses),
+            first: last.first.ahead(mistake.clauses),
         }
     }
 }
 
+/// The literal that says that the variable is true.
+fn literal_of(variable: Variable) -> i32 {
+    i32::try_from(variable.number()).unwrap_or(1)
+}
+
 /// The literal that says that the variable is false.
-fn not(variable: u32) -> i32 {
-    0i32.wrapping_sub(i32::try_from(variable).unwrap_or(1))
+fn not(variable: Variable) -> i32 {
+    0i32.wrapping_sub(literal_of(variable))
 }
 
 /// Adds the clauses of program order.
@@ -176,7 +183,7 @@ fn add_choice(
     accesses: &[Access],
     reader: u32,
     writer: Option<u32>,
-    variable: u32,
+    variable: Variable,
 ) -> Result<(), AllocError> {
     let first = made.next();
     let told = made.told(ReadsFromVariable {
@@ -240,30 +247,30 @@ fn add_reader(
 ) -> Result<(), AllocError> {
     let sources = sources(alloc, accesses, reader, value)?;
     let mut some = Vec::new(alloc);
-    let mut variable = made.variables;
+    let mut variable = made.last;
     for _ in &sources {
-        variable = variable.wrapping_add(1);
-        some.push(i32::try_from(variable).unwrap_or(1))?;
+        variable = variable.next();
+        some.push(literal_of(variable))?;
     }
     add(alloc, &mut made.clauses, some.as_slice())?;
     for source in &sources {
-        made.variables = made.variables.wrapping_add(1);
-        let variable = made.variables;
+        made.last = made.last.next();
+        let variable = made.last;
         add_choice(alloc, made, accesses, reader, *source, variable)?;
     }
     Ok(())
 }
 
-/// Adds the clauses of a last writer, and reports it. The clause which says that there is one has this number.
+/// Adds the clauses of a last writer, and reports it. `clause` says that there is one.
 fn add_last_writer(
     alloc: Global,
     made: &mut Made,
     accesses: &[Access],
     writer: u32,
-    clause: u32,
+    clause: ClauseId,
 ) -> Result<(), AllocError> {
-    made.variables = made.variables.wrapping_add(1);
-    let variable = made.variables;
+    made.last = made.last.next();
+    let variable = made.last;
     let first = made.next();
     let told = made.told_of_last(LastWriter {
         variable,
@@ -292,11 +299,11 @@ fn add_final_value(
 ) -> Result<(), AllocError> {
     let clause = made.next();
     let mut some = Vec::new(alloc);
-    let mut variable = made.variables;
+    let mut variable = made.last;
     for access in accesses {
         if access.writes == Some(value) {
-            variable = variable.wrapping_add(1);
-            some.push(i32::try_from(variable).unwrap_or(1))?;
+            variable = variable.next();
+            some.push(literal_of(variable))?;
         }
     }
     add(alloc, &mut made.clauses, some.as_slice())?;
@@ -323,7 +330,7 @@ pub fn formula_of_trace(
         elements,
         clauses: Vec::new(alloc),
         reads_from: ReadsFromTable::new(alloc, elements)?,
-        variables: elements.wrapping_mul(elements.wrapping_sub(1)) / 2,
+        last: Variable::new(elements.wrapping_mul(elements.wrapping_sub(1)) / 2),
         mistake,
     };
     add_processes(alloc, &mut made, accesses)?;
@@ -352,11 +359,11 @@ pub fn formula_of_trace(
     let Made {
         clauses,
         reads_from,
-        variables,
+        last,
         ..
     } = made;
     Ok(Traced {
-        formula: formula_of(alloc, variables, clauses),
+        formula: formula_of(alloc, last.number(), clauses),
         elements,
         first,
         reads_from,

@@ -6,6 +6,7 @@ use crate::solving::formulas::{PIGEONHOLE, STORE_BUFFERING, listed, literals_of}
 use dimacs::Formula;
 use lrat_check::derivation::Derivation;
 use lrat_check::derivation_copies::are_same;
+use proof_log::ClauseId;
 use solver::{Answer, CubeSolver, EncodingHints, PreparedFormula, solve_cube};
 use std::alloc::{AllocError, Global};
 
@@ -71,7 +72,11 @@ fn a_model_of_the_whole_leaves_other_cubes_open(rt: HostRuntime) {
     let alloc = rt.alloc();
     // These clauses have one model, in which all variables are true. So it is not in the cube of -2, which a search of its own refutes.
     let formula = ample(&rt, listed(alloc, 8, &STORE_BUFFERING[..13]));
-    let prepared = PreparedFormula::of(alloc, &formula, EncodingHints::with_order(4, 3));
+    let prepared = PreparedFormula::of(
+        alloc,
+        &formula,
+        EncodingHints::with_order(4, ClauseId::new(3)),
+    );
     let mut prepared = ample(&rt, prepared);
     let alone = ample(&rt, shown(alloc, &formula, &prepared, -2));
     expect(&rt, matches!(alone, Shown::NoModel(_)), 0);
