@@ -1,7 +1,7 @@
 -- How a batch goes on, file by file, and how it ends.
 use Rattle.std.specs.Borrow.{Bor}
-use Rattle.std.proofs.Common.{◌≡◌, ◌∙◌, ℕ, ◌+◌, ◌<◌, List, [], ◌∷◌, ◌++◌, length, refl, sym, ap, subst, inl, inr, suc, take, drop, get_or, drop-cons, take_all, append-nil, append_assoc, arith}
-use Rattle.std.specs.Prelude.{Result, Ok, Err, map}
+use Rattle.std.proofs.Common.{◌≡◌, ◌∙◌, ℕ, ◌+◌, ◌<◌, List, [], ◌∷◌, ◌++◌, length, refl, sym, ap, subst, inl, inr, suc, take, drop, get_or, drop-cons, append-nil, append_assoc, arith}
+use Rattle.std.specs.Prelude.{Result, Ok, Err}
 use Rattle.std.proofs.lemmas.List.{map-append, take-append-drop, take_more}
 use Rattle.batch_report.proofs.BlockLemmas.{outcome_is, tally_more}
 use Rattle.batch_report.proofs.EngineLemmas.{taken_of}
@@ -13,7 +13,7 @@ use Rattle.batch_report.specs.declared.tally.VerdictTally.{VerdictTally}
 use Rattle.clap.specs.Walk.{texts}
 use Rattle.command_host.specs.HostCalls.{HostCalls}
 use Rattle.command_host.specs.Streams.{SourceView}
-use Rattle.command_run.specs.BatchRuns.{DecidesFile, FindsInFiles, FinishesFiles, HasDecided, RunsBatch, StopsInFile, all_findings, lines_of_files}
+use Rattle.command_run.specs.BatchRuns.{DecidesFile, FindsInFiles, HasDecided, RunsBatch, all_findings, lines_of_files}
 use Rattle.command_run.specs.ReadFiles.{ReadsFile}
 use Rattle.dimacs.specs.declared.sink_fault.SinkFault.{SinkFault}
 use Rattle.verdict_report.specs.declared.fault.Fault.{Fault}

@@ -1,6 +1,6 @@
 -- How a batch with lines of some form goes on, file by file, and how it ends.
 use Rattle.std.specs.Borrow.{Bor}
-use Rattle.std.proofs.Common.{◌≡◌, ◌⊎◌, ◌∙◌, ℕ, ◌+◌, Bool, false, true, Option, None, Some, List, [], ◌∷◌, ◌++◌, length, refl, sym, ap, subst, inl, inr, append-nil, append_assoc, arith}
+use Rattle.std.proofs.Common.{◌≡◌, ◌∙◌, ℕ, Bool, false, true, Option, None, Some, List, [], ◌∷◌, ◌++◌, length, refl, sym, ap, subst, inl, inr, append-nil, append_assoc, arith}
 use Rattle.std.specs.Prelude.{Result, Ok, Err}
 use Rattle.batch_report.proofs.BlockLemmas.{outcome_is, tally_more}
 use Rattle.batch_report.proofs.EngineLemmas.{taken_of}
@@ -14,7 +14,7 @@ use Rattle.command_host.specs.Streams.{SourceView}
 use Rattle.command_line.specs.declared.line.BatchOutput.{BatchOutput}
 use Rattle.command_run.specs.AskedFiles.{FailsToMakeAsked}
 use Rattle.command_run.specs.BatchRuns.{RunsBatch}
-use Rattle.command_run.specs.FormedRuns.{AreLinesOfFiles, DecidesFormed, FindsFormed, FinishesFormedFiles, HasFormed, MakesAskedFolder, RunsBatchIf, RunsFormed, StopsInFormedFile, WithFolder, all_found, meaning_of}
+use Rattle.command_run.specs.FormedRuns.{AreLinesOfFiles, DecidesFormed, FindsFormed, HasFormed, MakesAskedFolder, RunsBatchIf, RunsFormed, WithFolder, all_found, meaning_of}
 use Rattle.command_run.specs.ReadFiles.{ReadsFile}
 use Rattle.dimacs.specs.declared.sink_fault.SinkFault.{SinkFault}
 use Rattle.verdict_report.specs.declared.fault.Fault.{Fault}

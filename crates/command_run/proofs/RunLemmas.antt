@@ -1,6 +1,5 @@
 -- What a file did that was handed out.
 use Rattle.std.proofs.Common.{◌≡◌, ℕ, List, [], false, refl}
-use Rattle.verdict_report.specs.Runs.{SourceRun}
 use Rattle.command_run.specs.ReadFiles.{ReadsFile}
 use Rattle.command_host.specs.HostCalls.{HostCalls}
 use Rattle.command_host.specs.Streams.{SourceView}

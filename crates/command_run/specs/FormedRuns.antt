@@ -1,6 +1,6 @@
 -- A batch whose lines have some form, and beside which files may be kept.
 use Rattle.std.specs.Borrow.{Bor}
-use Rattle.std.specs.Prelude.{◌≡◌, ◌⊎◌, ◌||◌, ℕ, Bool, false, true, List, [], ◌∷◌, ◌++◌, Option, None, Some, Result, Ok, Err, is_some, length, refl}
+use Rattle.std.specs.Prelude.{◌≡◌, ◌⊎◌, ◌||◌, ℕ, Bool, false, true, List, [], ◌∷◌, ◌++◌, Option, None, Some, Result, Err, is_some, length, refl}
 use Rattle.batch_report.specs.BatchLines.{batch_line}
 use Rattle.batch_report.specs.FormedBatch.{EndsEarly, IsRunOfFormed, device_run}
 use Rattle.batch_report.specs.Findings.{AreAllFound, AreLines, AreSomeFound, Finding, LineMeaning, Reaches, verdicts_of}

@@ -3,7 +3,7 @@ ghost use Rattle.std.specs.Prelude.{◌≡◌};
 ghost use Rattle.clap.specs.Walk.{texts};
 ghost use Rattle.command_host.specs.Streams.{source_view};
 ghost use Rattle.command_line.specs.CommandLine.{AreBatchNumbers};
-ghost use Rattle.command_run.specs.BatchRuns.{DecidesFile, RunsBatch};
+ghost use Rattle.command_run.specs.BatchRuns.{RunsBatch};
 ghost use Rattle.verdict_report.specs.Fault.{fault_of_sink};
 ghost use Rattle.verdict_report.specs.Runs.{sink_run};
 
@@ -66,32 +66,6 @@ pub(crate) fn refusal_of_sink(fault: SinkFault) -> Fault
     }
 }
 
-/// Decides the traces in the file at this path, writes a line for each to the standard output, and counts them.
-fn decide_file<'p, R: Threads + Wait + Sync, H: Host<'p>, W: Sink>(
-    task: &BatchTask<'_, R>,
-    host: &mut H,
-    traces: &'p str,
-    tally: VerdictTally,
-    out: &mut W,
-) -> Result<VerdictTally, SinkFault>
-    ensures { DecidesFile H.calls (source_view H.Input.handed_out H.Input.is_at_end H.Input.failures H.Input.path)
-        host.old traces.now tally (sink_run W.written W.failures out.old out.new) result host.new }
-{
-    let surveyor = BySaturation {
-        budget: SURVEY_STEPS,
-    };
-    let mut file = open(task.alloc, host, traces, false);
-    let run = BatchRun {
-        alloc: task.alloc,
-        rt: task.rt,
-        file: traces,
-        form: &PlainForm,
-        search: task.search,
-        surveyor: &surveyor,
-    };
-    run_batch(&run, &mut file, tally, out)
-}
-
 /// Decides the traces in the files at these paths, and writes a line for each to the standard output. A file that cannot be read to its end
 /// is refused in its last line, and then the next one is decided.
 pub(crate) fn decide_traces<'p, R: Threads + Wait + Sync, H: Host<'p>, W: Sink>(
@@ -103,9 +77,22 @@ pub(crate) fn decide_traces<'p, R: Threads + Wait + Sync, H: Host<'p>, W: Sink>(
     ensures { RunsBatch H.calls (source_view H.Input.handed_out H.Input.is_at_end H.Input.failures H.Input.path)
         host.old (texts traces.now) (sink_run W.written W.failures out.old out.new) result host.new }
 {
+    let surveyor = BySaturation {
+        budget: SURVEY_STEPS,
+    };
     let mut tally = VerdictTally::new();
     for at in 0..traces.len() {
-        let counted = match decide_file(task, host, traces[at], tally, out) {
+        let path = traces[at];
+        let mut file = open(task.alloc, host, path, false);
+        let run = BatchRun {
+            alloc: task.alloc,
+            rt: task.rt,
+            file: path,
+            form: &PlainForm,
+            search: task.search,
+            surveyor: &surveyor,
+        };
+        let counted = match run_batch(&run, &mut file, tally, out) {
             Ok(counted) => counted,
             Err(fault) => return Err(refusal_of_sink(fault)),
         };

@@ -11,12 +11,13 @@ ghost use Rattle.verdict_report.specs.Runs.{sink_run};
 use crate::asked_gate::AskedGate;
 use crate::batch_runs::{BatchTask, batch_of};
 use crate::formed_runs::decide_batch;
+use crate::hinted_runs::{AskedSurvey, survey_opened};
 use crate::kept_run::KeptRun;
 use crate::opening::open;
 use crate::program_run::ProgramRun;
 use crate::refusals::write_refusals;
 use crate::search_runs::{search_of, survey_of};
-use crate::survey_runs::{SurveyPaths, survey_file};
+use crate::survey_runs::{inputs_of_survey, takes_none, with_core};
 use crate::text_engines::{TwoTextEngine, run_on_texts};
 use command_host::{Host, Recorder, SearchRequest};
 use command_line::Line;
@@ -264,11 +265,17 @@ pub(crate) fn run_engine<'p, R: Threads + Wait + Sync, G: Gate + Sync, H: Host<'
             progress: tells_progress,
         } => {
             let search = survey_of(*numbers, *tells_progress);
-            let paths = SurveyPaths {
-                trace: *trace,
+            let asked = AskedSurvey {
+                run,
+                inputs: inputs_of_survey(*trace, *files),
                 files: *files,
+                search: &search,
             };
-            survey_file(run, host, paths, &search, out, kept)
+            if takes_none(*files) {
+                survey_opened(&asked, host, out, kept)
+            } else {
+                with_core(&asked, host, out, kept)
+            }
         }
         Line::Refusals => write_refusals(run.alloc, out),
         Line::Batch {

@@ -3,7 +3,7 @@ ghost use Rattle.std.specs.Prelude.{◌≡◌, OnErr, OnOk};
 ghost use Rattle.clap.specs.Walk.{texts};
 ghost use Rattle.command_host.specs.Streams.{source_view};
 ghost use Rattle.command_run.specs.AskedFiles.{FailsToMakeAsked};
-ghost use Rattle.command_run.specs.FormedRuns.{DecidesFormed, MakesAskedFolder, RunsBatchWith, RunsFormed, asks_more};
+ghost use Rattle.command_run.specs.FormedRuns.{MakesAskedFolder, RunsBatchWith, RunsFormed, asks_more};
 ghost use Rattle.verdict_report.specs.Runs.{sink_run};
 
 use crate::batch_runs::{BatchTask, SURVEY_STEPS, decide_traces, refusal_of_sink};
@@ -12,38 +12,11 @@ use crate::opening::open;
 use batch_report::{BatchRun, JsonForm, LineForm, VerdictTally, run_batch_in};
 use command_host::Host;
 use command_line::BatchOutput;
-use dimacs::{Failed, Sink, SinkFault};
+use dimacs::{Failed, Sink};
 use std::sync::Wait;
 use std::thread::Threads;
 use survey::BySaturation;
 use verdict_report::{Fault, Status};
-
-/// Decides the traces in the file at this path, writes a line of this form for each to the standard output, and counts them.
-fn decide_file_in<'p, R: Threads + Wait + Sync, H: Host<'p>, F: LineForm<H>, W: Sink>(
-    task: &BatchTask<'_, R>,
-    host: &mut H,
-    form: &F,
-    traces: &'p str,
-    tally: VerdictTally,
-    out: &mut W,
-) -> Result<VerdictTally, SinkFault>
-    ensures { DecidesFormed H.calls (source_view H.Input.handed_out H.Input.is_at_end H.Input.failures H.Input.path) F.means
-        host.old traces.now tally (sink_run W.written W.failures out.old out.new) result host.new }
-{
-    let surveyor = BySaturation {
-        budget: SURVEY_STEPS,
-    };
-    let mut file = open(task.alloc, host, traces, false);
-    let run = BatchRun {
-        alloc: task.alloc,
-        rt: task.rt,
-        file: traces,
-        form,
-        search: task.search,
-        surveyor: &surveyor,
-    };
-    run_batch_in(&run, host, &mut file, tally, out)
-}
 
 /// Decides the traces in the files at these paths, and writes a line of this form for each to the standard output. A file that cannot be read
 /// to its end is refused in its last line, and then the next one is decided.
@@ -57,9 +30,22 @@ fn decide_traces_in<'p, R: Threads + Wait + Sync, H: Host<'p>, F: LineForm<H>, W
     ensures { RunsFormed H.calls (source_view H.Input.handed_out H.Input.is_at_end H.Input.failures H.Input.path) F.means
         host.old (texts traces.now) (sink_run W.written W.failures out.old out.new) result host.new }
 {
+    let surveyor = BySaturation {
+        budget: SURVEY_STEPS,
+    };
     let mut tally = VerdictTally::new();
     for at in 0..traces.len() {
-        let counted = match decide_file_in(task, host, form, traces[at], tally, out) {
+        let path = traces[at];
+        let mut file = open(task.alloc, host, path, false);
+        let run = BatchRun {
+            alloc: task.alloc,
+            rt: task.rt,
+            file: path,
+            form,
+            search: task.search,
+            surveyor: &surveyor,
+        };
+        let counted = match run_batch_in(&run, host, &mut file, tally, out) {
             Ok(counted) => counted,
             Err(fault) => return Err(refusal_of_sink(fault)),
         };

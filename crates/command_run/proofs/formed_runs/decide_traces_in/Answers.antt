@@ -1,11 +1,12 @@
 use Rattle.std.specs.Borrow.{Bor}
-use Rattle.std.proofs.Common.{◌<◌, ◌≡◌, List, ℕ, [], drop, length, subst, suc, sym, take, take_all, arith}
+use Rattle.std.proofs.Common.{◌<◌, ◌≡◌, ◌∙◌, List, ℕ, [], drop, get_or, length, subst, suc, sym, take, take_all, arith}
 use Rattle.clap.specs.Walk.{texts}
 use Rattle.command_host.specs.Streams.{source_view}
 use Rattle.command_run.specs.FormedRuns.{HasFormed}
-use Rattle.verdict_report.specs.Runs.{sink_run}
+use Rattle.verdict_report.specs.Runs.{sink_run, source_run}
 use Rattle.command_run.proofs.BatchLemmas.{texts_around, texts_more}
 use Rattle.command_run.proofs.FormedLemmas.{formed, forms_more, none_formed, stops_formed}
+use Rattle.command_run.proofs.RunLemmas.{reads_file}
 use Rattle.command_run.proofs.formed_runs.decide_traces_in.Goals as goal
 
 abbrev no_path : Bor (List ℕ)
@@ -24,11 +25,19 @@ loop-at-preserved g c =
     let read = source_view g.H.Input.Source.handed_out g.H.Input.Source.is_at_end g.H.Input.Source.failures g.H.Input.Source.path in
     let written = g.W.Sink.written in
     let failures = g.W.Sink.failures in
+    let path = (get_or c.args.traces.now c.loop-at.at no_path).now in
+    let file = source_run g.H.Input.Source.handed_out g.H.Input.Source.is_at_end g.H.Input.Source.failures c.open-file.result.source c.run_batch_in.new.traces.source in
     let within : c.loop-at.at < length c.args.traces.now = omega arith in
-    subst (λ paths. HasFormed g.H.Host.calls read means c.args.host.now paths c.in-Ok.counted (sink_run written failures c.args.out.now c.decide_file_in.new.out) c.decide_file_in.new.host) (texts_more c.args.traces.now c.loop-at.at no_path within)
-    (forms_more g.H.Host.calls read means c.args.host.now c.loop-at.host c.decide_file_in.new.host (texts (take c.loop-at.at c.args.traces.now)) _ c.loop-at.tally
-    (written c.args.out.now) (written c.loop-at.out) (written c.decide_file_in.new.out) (failures c.args.out.now) (failures c.loop-at.out) (failures c.decide_file_in.new.out)
-    c.loop-at.invariant c.in-Ok.counted c.in-Ok.ensures)
+    subst (λ paths. HasFormed g.H.Host.calls read means c.args.host.now paths c.in-Ok.counted (sink_run written failures c.args.out.now c.run_batch_in.new.out) c.run_batch_in.new.devices) (texts_more c.args.traces.now c.loop-at.at no_path within)
+    (forms_more g.H.Host.calls read means c.args.host.now c.loop-at.host c.run_batch_in.new.devices (texts (take c.loop-at.at c.args.traces.now)) path c.loop-at.tally
+    (written c.args.out.now) (written c.loop-at.out) (written c.run_batch_in.new.out) (failures c.args.out.now) (failures c.loop-at.out) (failures c.run_batch_in.new.out)
+    c.loop-at.invariant c.in-Ok.counted (record {
+      file = file;
+      opened = c.open-file.new.host;
+      reads = reads_file c.open-file.result.source c.run_batch_in.new.traces.source c.open-file.ensures.opens c.open-file.ensures.handed_out c.open-file.ensures.is_at_end c.open-file.ensures.failures
+          (c.in-Ok.ensures.same_traces ∙ c.open-file.ensures.path);
+      runs = c.in-Ok.ensures.run;
+    }))
 
 pub returns-in-Err : goal.returns-in-Err
 returns-in-Err g c =
@@ -36,11 +45,20 @@ returns-in-Err g c =
     let read = source_view g.H.Input.Source.handed_out g.H.Input.Source.is_at_end g.H.Input.Source.failures g.H.Input.Source.path in
     let written = g.W.Sink.written in
     let failures = g.W.Sink.failures in
+    let path = (get_or c.args.traces.now c.loop-at.at no_path).now in
+    let file = source_run g.H.Input.Source.handed_out g.H.Input.Source.is_at_end g.H.Input.Source.failures c.open-file.result.source c.run_batch_in.new.traces.source in
     let within : c.loop-at.at < length c.args.traces.now = omega arith in
-    stops_formed g.H.Host.calls read means c.args.host.now c.loop-at.host c.decide_file_in.new.host (texts (take c.loop-at.at c.args.traces.now)) _ c.loop-at.tally
-    (written c.args.out.now) (written c.loop-at.out) (written c.decide_file_in.new.out) (failures c.args.out.now) (failures c.loop-at.out) (failures c.decide_file_in.new.out)
+    stops_formed g.H.Host.calls read means c.args.host.now c.loop-at.host c.run_batch_in.new.devices (texts (take c.loop-at.at c.args.traces.now)) path c.loop-at.tally
+    (written c.args.out.now) (written c.loop-at.out) (written c.run_batch_in.new.out) (failures c.args.out.now) (failures c.loop-at.out) (failures c.run_batch_in.new.out)
     c.loop-at.invariant (texts c.args.traces.now) (texts (drop (suc c.loop-at.at) c.args.traces.now)) (texts_around c.args.traces.now c.loop-at.at no_path within)
-    c.in-Err.fault c.in-Err.ensures c.refusal_of_sink.result c.refusal_of_sink.ensures
+    c.in-Err.fault (record {
+      file = file;
+      opened = c.open-file.new.host;
+      reads = reads_file c.open-file.result.source c.run_batch_in.new.traces.source c.open-file.ensures.opens c.open-file.ensures.handed_out c.open-file.ensures.is_at_end c.open-file.ensures.failures
+          (c.in-Err.ensures.same_traces ∙ c.open-file.ensures.path);
+      runs = c.in-Err.ensures.run;
+    })
+    c.refusal_of_sink.result c.refusal_of_sink.ensures
 
 pub returns : goal.returns
 returns g c =
